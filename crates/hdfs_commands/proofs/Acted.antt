@@ -103,7 +103,6 @@ pub record BeginsFile (s t : Shown) (session : Session) (state : State) (command
   pub content : Content
   pub begun : Begun p q state path content (files.tail_of writer)
   pub done : step (world_at session s) state command ≡ Done reply (with_writing state path content)
-  pub limited : IsLimited (world_at session s) state command
   pub replication : (files.sizes_of writer).replication ≡ content.attributes.replication
   pub block_size : (files.sizes_of writer).block_size ≡ content.attributes.block_size
 
@@ -116,7 +115,8 @@ or_flip path r = by_tests (bytes_eq r path) (bytes_eq path r) (bytes_eq-Decides 
     by_tests false false one two back forth = refl
 
 module _ (command : Command) (s t : Shown) (session session' : Session) (path : List ℕ) (writer : FileWriter) (reply : Reply) (more : HasMore session session' path writer)
-    (told : (state : State) → IsReady s session state command → BeginsFile s t session state command path reply writer) where
+    (told : (state : State) → IsReady s session state command → BeginsFile s t session state command path reply writer)
+    (limited : (state : State) → IsReady s session state command → IsLimited (world_at session s) state command) where
   module _ (state : State) (ready : IsReady s session state command) where
     opened_at : (b : Bool) (o : Bool) (r : List ℕ) → is_opened state r ≡ is_some (writer_of session r) → bytes_eq path r ≡ b → (bytes_eq r path || is_opened state r) ≡ is_some (cond b (Some writer) (writer_of session r))
     opened_at true o r same test = ap (λ (x : Bool). x || is_opened state r) (or_flip path r ∙ test)
@@ -178,7 +178,7 @@ module _ (command : Command) (s t : Shown) (session session' : Session) (path : 
         ∙ ap (λ (b : Bool). cond b (Some writer) (writer_of session r)) (not_same path r (λ same. apart (same ∙ sym called)));
     applied = λ state ready. (let f = told state ready in
         record {
-          ok = (with_writing state path f.content, f.done, f.limited, fits_next state ready, opened_same state ready);
+          ok = (with_writing state path f.content, f.done, limited state ready, fits_next state ready, opened_same state ready);
           err = tt;
           complete = tt;
         });

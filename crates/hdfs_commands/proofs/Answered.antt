@@ -18,8 +18,9 @@ use Rattle.hdfs_model.specs.Opening.{AnswersDefaults}
 use Rattle.hdfs_namenode.specs.Clients.{KeepsAnswered, SameClient, defaults_of, name_of}
 use Rattle.hdfs_namenode.specs.declared.protocol.NamenodeProtocol.{NamenodeProtocol}
 use Rattle.hdfs_file_writer.specs.declared.file_writer.FileWriter.{FileWriter}
+use Rattle.hdfs_file_writer.specs.declared.sizes.WriteSizes.{WriteSizes}
 use Rattle.hdfs_file_writer.specs.Tails.{Tail, Bare}
-use Rattle.hdfs_file_writer.specs.Writers.{IsAnswered, IsAnsweredTail, Stands, file_id_of, has_failed, path_of, tail_by, tail_of, tail_opened}
+use Rattle.hdfs_file_writer.specs.Writers.{IsAnswered, IsAnsweredTail, Stands, file_id_of, has_failed, path_of, tail_by, link_of, sizes_of, tail_of, tail_opened}
 use Rattle.hdfs_commands.specs.Asking.{AreAnswered}
 use Rattle.hdfs_commands.specs.Session.{writer_of}
 use Rattle.hdfs_commands.specs.declared.session.Session.{Session}
@@ -75,41 +76,40 @@ not_going None reopened block last is = refl
 not_going (Some writer) reopened None last is = absurd (cc is)
 not_going (Some writer) reopened (Some located) last is = absurd (cc is)
 
--- so a new one has no block that is done
-none_done : {shown : Shown} (writer : FileWriter) (block : Option LocatedBlock) → Stands shown writer → has_failed writer ≡ false
-    → tail_of writer ≡ tail_opened block None → writer.last ≡ None
-none_done writer block stands fine is = stands.done fine (not_going writer.going writer.reopened block writer.last is)
+-- The writer of a file that was just opened at a path, which has this id, tail and sizes.
+pub record IsFresh (writer : FileWriter) (path : List ℕ) (file_id : Option ℕ) (tail : Tail) (sizes : WriteSizes) : Type 0 where
+  pub at : (path_of writer ≡ path) × (sizes_of writer ≡ sizes) × (file_id_of writer ≡ file_id)
+  pub tail_is : tail_of writer ≡ tail
+  pub idle : (link_of writer ≡ None) × (has_failed writer ≡ false)
+  pub stands : (shown : Shown) → Stands shown writer
 
--- the writer of a file with a path and an id that were answered, whose last block was, and where none is done
-answered_writer : {may_answer : Ask → Answer → Type 0} {client : List ℕ} (writer : FileWriter) (path : List ℕ) (file_id : Option ℕ) (tail : Tail)
-    → path_of writer ≡ path → file_id_of writer ≡ file_id → tail_of writer ≡ tail → writer.last ≡ None → IsAnsweredId may_answer client path file_id
-    → IsAnsweredTail may_answer client path file_id tail → IsAnswered may_answer client writer
-answered_writer {may_answer} {client} writer path file_id tail at id is none answered block = record {
-  id =
-      subst (λ (p : List ℕ). IsAnsweredId may_answer client p writer.file_id) (sym at)
-      (subst (λ (i : Option ℕ). IsAnsweredId may_answer client path i) (sym id) answered);
-  block =
-      subst (λ (p : List ℕ). IsAnsweredTail may_answer client p writer.file_id (tail_of writer)) (sym at)
-      (subst (λ (i : Option ℕ). IsAnsweredTail may_answer client path i (tail_of writer)) (sym id)
-      (subst (IsAnsweredTail may_answer client path file_id) (sym is) block));
-  last = λ fine. subst (IsAnsweredLast may_answer client writer.path writer.file_id) (sym none) tt;
-}
+module _ {may_answer : Ask → Answer → Type 0} {client path : List ℕ} {writer : FileWriter} {sizes : WriteSizes} (shown : Shown) where
+  -- it was answered to a client whose file's id and last block were
+  answered_writer : {file_id : Option ℕ} (block : Option LocatedBlock) → IsFresh writer path file_id (tail_opened block None) sizes → IsAnsweredId may_answer client path file_id
+      → IsAnsweredTail may_answer client path file_id (tail_opened block None) → IsAnswered may_answer client writer
+  answered_writer {file_id} block fresh answered last =
+      let none = (fresh.stands shown).done fresh.idle.1 (not_going writer.going writer.reopened block writer.last fresh.tail_is) in
+      record {
+        id =
+            subst (λ (p : List ℕ). IsAnsweredId may_answer client p writer.file_id) (sym fresh.at.0)
+            (subst (λ (i : Option ℕ). IsAnsweredId may_answer client path i) (sym fresh.at.2) answered);
+        block =
+            subst (λ (p : List ℕ). IsAnsweredTail may_answer client p writer.file_id (tail_of writer)) (sym fresh.at.0)
+            (subst (λ (i : Option ℕ). IsAnsweredTail may_answer client path i (tail_of writer)) (sym fresh.at.2)
+            (subst (IsAnsweredTail may_answer client path file_id) (sym fresh.tail_is) last));
+        last = λ fine. subst (IsAnsweredLast may_answer client writer.path writer.file_id) (sym none) tt;
+      }
 
--- that of a new file
-pub answered_created : {may_answer : Ask → Answer → Type 0} {client : List ℕ} {shown : Shown} (writer : FileWriter) (path : List ℕ) (file_id : Option ℕ)
-    → Stands shown writer → has_failed writer ≡ false → path_of writer ≡ path → file_id_of writer ≡ file_id → tail_of writer ≡ Bare
-    → IsAnsweredId may_answer client path file_id → IsAnswered may_answer client writer
-answered_created writer path file_id stands fine at id is answered =
-    answered_writer writer path file_id Bare at id is (none_done writer None stands fine is) answered tt
+  -- that of a new file
+  pub answered_created : {file_id : Option ℕ} → IsFresh writer path file_id Bare sizes → IsAnsweredId may_answer client path file_id → IsAnswered may_answer client writer
+  answered_created fresh answered = answered_writer None fresh answered tt
 
--- that of a file that was opened to be gone on with
-pub answered_appended : {may_answer : Ask → Answer → Type 0} {client : List ℕ} {shown : Shown} (writer : FileWriter) (path : List ℕ)
-    (appended : Appended) → Stands shown writer → has_failed writer ≡ false → path_of writer ≡ path → file_id_of writer ≡ id_in appended.stat → tail_of writer ≡ tail_opened appended.block None
-    → may_answer (asks.Append path client 4) (answers.Append appended) → IsAnswered may_answer client writer
-answered_appended {may_answer} {client} writer path appended stands fine at id is answered =
-    answered_writer writer path (id_in appended.stat) (tail_opened appended.block None) at id is (none_done writer appended.block stands fine is)
-    (inr (record { appended = appended; answered = answered; is = refl })) (opened appended.block refl)
-  where
-    opened : (block : Option LocatedBlock) → appended.block ≡ block → IsAnsweredTail may_answer client path (id_in appended.stat) (tail_opened block None)
-    opened None is = tt
-    opened (Some located) is = record { appended = appended; answered = answered; is = is }
+  -- that of a file that was opened to be gone on with
+  pub answered_appended : (appended : Appended) → IsFresh writer path (id_in appended.stat) (tail_opened appended.block None) sizes
+      → may_answer (asks.Append path client 4) (answers.Append appended) → IsAnswered may_answer client writer
+  answered_appended appended fresh answered =
+      answered_writer appended.block fresh (inr (record { appended = appended; answered = answered; is = refl })) (opened appended.block refl)
+    where
+      opened : (block : Option LocatedBlock) → appended.block ≡ block → IsAnsweredTail may_answer client path (id_in appended.stat) (tail_opened block None)
+      opened None is = tt
+      opened (Some located) is = record { appended = appended; answered = answered; is = is }

@@ -203,14 +203,8 @@ module _ (old new : Shown) (session session' : Session) (path : List ℕ) (was n
         ⊎_elim
         (λ here. inl (failed writer (sym here.1 ∙ at)))
         (λ apart.
-        (let c = carried.each p was other writer (sym apart.1 ∙ at) in
-        let same : q ≡ x = cc (is, told) in
-        inr (subst (λ (y : Picture). CarriesFile y state other writer) same (record {
-          content = c.content;
-          named = c.named;
-          carries = carries_others path p q sound only other (files.tail_of writer) c.content.bytes apart.0 c.carries;
-          replication = c.replication;
-          block_size = c.block_size;
-        }))))
+        (let same : q ≡ x = cc (is, told) in
+        inr (subst (λ (y : Picture). CarriesFile y state other writer) same
+        (other_carries p q was is sound only state state (λ r away. refl) other writer apart.0 (carried.each p was other writer (sym apart.1 ∙ at))))))
         (cases_at other);
   }

@@ -1,15 +1,14 @@
 -- A command that is refused before anything is asked.
-use Rattle.std.proofs.Common.{◌≡◌, ◌⊎◌, inl, inr, ℕ, Bool, true, false, cond, List, Result, Ok, Err, refl, sym, ◌∙◌, ap, subst}
+use Rattle.std.proofs.Common.{◌≡◌, ◌⊎◌, inl, inr, ℕ, Bool, true, false, cond, List, Result, Ok, Err, refl, sym, ap, subst}
 use Rattle.std.specs.Prelude.{IfErr}
 use Rattle.hdfs_model.specs.declared.commands.Command.{Command}
-use Rattle.hdfs_model.specs.declared.commands.Command.TheVariants as commands
 use Rattle.hdfs_model.specs.declared.commands.Reply.{Reply}
 use Rattle.hdfs_cluster.specs.declared.errors.ArgFault.TheVariants as args
 use Rattle.hdfs_cluster.specs.declared.errors.HdfsError.{HdfsError}
 use Rattle.hdfs_cluster.specs.declared.errors.HdfsError.TheVariants as errors
 use Rattle.hdfs_model.specs.Causes.{Cause, Tells}
 use Rattle.hdfs_cluster.specs.Files.{State}
-use Rattle.hdfs_names.specs.Paths.{absolute, is_path}
+use Rattle.hdfs_names.specs.Paths.{is_path}
 use Rattle.hdfs_model.specs.Sessions.{Answers, spared}
 use Rattle.hdfs_model.specs.Owing.{Owed, IsMisplaced, IsNotOwed, MeetsNoText}
 use Rattle.hdfs_cluster.specs.Shown.{Shown}
@@ -17,7 +16,7 @@ use Rattle.hdfs_model.specs.Steps.{World, Outcome, Refused, Done, BadPath, path_
 use Rattle.hdfs_model.proofs.Misplaced.{misplaced_step}
 use Rattle.hdfs_cluster.proofs.Frames.{later_refl, same_reads_refl}
 use Rattle.hdfs_commands.specs.Acting.{Acts, IsReady, world_at}
-use Rattle.hdfs_commands.specs.Session.{Stands, after, opened_of, settings_of}
+use Rattle.hdfs_commands.specs.Session.{Stands, after, opened_of}
 use Rattle.hdfs_commands.specs.declared.session.Session.{Session}
 use Rattle.hdfs_commands.proofs.Agreeing.{agrees_but}
 use Rattle.hdfs_commands.proofs.Sized.{remembers_failed, remembers_refl, sized_still}
@@ -93,43 +92,8 @@ pub owed_other : (w : World) (opened : List ℕ → Bool) (command : Command) (e
     → (IsMisplaced opened (target_of w command) command → ⊥) → IsNotOwed error ⊎ MeetsNoText command error → Owed w opened command error
 owed_other w opened command error is placed owes = inr (inr (inr (is, placed, owes)))
 
--- the path of a command wasn't had
-pub target_acts : (s : Shown) (session : Session) (command : Command) (error : HdfsError) → Stands s session
-    → (error ≡ errors.NoMemory) ⊎ ((error ≡ errors.InvalidPath (path_of command)) × (is_path (target_of (world_at session s) command) ≡ false))
-    → Acts command s session s (after session (error_result error)) (Err error)
-target_acts s session command error stands (inl memory) =
-    subst (λ (e : HdfsError). Acts command s session s (after session (error_result e)) (Err e)) (sym memory) (memory_acts s session command stands)
-target_acts s session command error stands (inr bad) =
-    subst (λ (e : HdfsError). Acts command s session s (after session (error_result e)) (Err e)) (sym bad.0) (path_acts s session command stands bad.1)
-
--- what is owed where neither is broken, of whatever came
-pub owed_result : {T : Type 0} (w : World) (opened : List ℕ → Bool) (command : Command) (result : Result T HdfsError) → is_path (target_of w command) ≡ true
-    → (IsMisplaced opened (target_of w command) command → ⊥) → IfErr result (λ error. IsNotOwed error ⊎ MeetsNoText command error)
-    → IfErr result (Owed w opened command)
-owed_result w opened command (Ok value) is placed owes = tt
-owed_result w opened command (Err error) is placed owes = owed_other w opened command error is placed owes
-
 -- of a call that says neither
 pub owed_plain : {T : Type 0} (w : World) (opened : List ℕ → Bool) (command : Command) (result : Result T HdfsError) → is_path (target_of w command) ≡ true
     → (IsMisplaced opened (target_of w command) command → ⊥) → IfErr result IsNotOwed → IfErr result (Owed w opened command)
 owed_plain w opened command (Ok value) is placed owes = tt
 owed_plain w opened command (Err error) is placed owes = owed_other w opened command error is placed (inl owes)
-
--- of a listing, which may say besides that a name is no text
-pub owed_listed : {T : Type 0} (name : List ℕ) (recursive : Bool) (limit : ℕ) (command : Command) → command ≡ commands.List name recursive limit → (result : Result T HdfsError)
-    → IfErr result (λ error. IsNotOwed error ⊎ (error ≡ errors.InvalidPath name)) → IfErr result (λ error. IsNotOwed error ⊎ MeetsNoText command error)
-owed_listed name recursive limit command is (Ok value) owes = tt
-owed_listed name recursive limit command is (Err error) owes = subst (λ (c : Command). IsNotOwed error ⊎ MeetsNoText c error) (sym is) owes
-
--- and where the path wasn't had
-pub owed_target : (w : World) (opened : List ℕ → Bool) (command : Command) (error : HdfsError)
-    → (error ≡ errors.NoMemory) ⊎ ((error ≡ errors.InvalidPath (path_of command)) × (is_path (target_of w command) ≡ false)) → Owed w opened command error
-owed_target w opened command error (inl memory) = inl memory
-owed_target w opened command error (inr bad) = inr (inl (bad.1, bad.0))
-
--- what is said of a command by its name is said of the command that has this name
-pub acts_called : (s t : Shown) (session session' : Session) (command command' : Command) (path : List ℕ) (result : Result Reply HdfsError) → command ≡ command' → path ≡ absolute (settings_of session).home (path_of command)
-    → (absolute (settings_of session).home (path_of command') ≡ path → Acts command' s session t (after session' result) result) → Acts command s session t (after session' result) result
-acts_called s t session session' command command' path result is called h =
-    subst (λ (c : Command). Acts c s session t (after session' result) result) (sym is)
-    (h (sym (called ∙ ap (λ (c : Command). absolute (settings_of session).home (path_of c)) is)))

@@ -1,29 +1,22 @@
 -- Errors of a command that opens a file to be written.
-use Rattle.std.proofs.Common.{◌≡◌, ◌⊎◌, inl, inr, ⊎_elim, ℕ, true, false, is_some, List, Option, Some, Err, refl, sym, ◌∙◌, ap, subst}
+use Rattle.std.proofs.Common.{◌≡◌, inl, inr, ℕ, true, false, is_some, List, Some, Err, sym, ◌∙◌, ap, subst}
 use Rattle.std.specs.BTreeMap.{get_by_text}
 use Rattle.hdfs_cluster.specs.declared.asks.Ask.{Ask}
 use Rattle.hdfs_model.specs.declared.commands.Command.{Command}
 use Rattle.hdfs_model.specs.declared.commands.Command.TheVariants as commands
 use Rattle.hdfs_model.specs.declared.commands.Reply.{Reply}
 use Rattle.hdfs_model.specs.declared.commands.WriteOptions.{WriteOptions}
-use Rattle.hdfs_cluster.specs.declared.errors.ArgFault.TheVariants as args
-use Rattle.hdfs_cluster.specs.declared.errors.Feature.TheVariants as features
 use Rattle.hdfs_cluster.specs.declared.errors.HdfsError.{HdfsError}
-use Rattle.hdfs_cluster.specs.declared.errors.HdfsError.TheVariants as errors
-use Rattle.hdfs_cluster.specs.declared.messages.ServerDefaults.{ServerDefaults}
-use Rattle.hdfs_cluster.specs.declared.picture.LastAnswer.TheVariants as last_answers
 use Rattle.hdfs_cluster.specs.Failures.{CallsRose}
-use Rattle.hdfs_model.specs.Causes.{CanMeetEncryption, Cause, CommandLost, Sends, Tells, UsesDefaults, WantsFile}
+use Rattle.hdfs_model.specs.Causes.{Cause, CommandLost, Sends, Tells}
 use Rattle.hdfs_cluster.specs.Files.{State}
 use Rattle.hdfs_cluster.specs.Namenode.{MayBeDone}
 use Rattle.hdfs_cluster.specs.Picture.{Picture, SameButActive, SameFiles}
-use Rattle.hdfs_model.specs.Sessions.{defaults_of, is_before_asking, spared}
-use Rattle.hdfs_cluster.specs.Limits.{are_defaults}
-use Rattle.hdfs_model.specs.Limits.{are_options}
+use Rattle.hdfs_model.specs.Sessions.{is_before_asking}
 use Rattle.hdfs_cluster.specs.Shown.{Shown}
-use Rattle.hdfs_model.specs.Steps.{is_opened, path_of, target_of}
+use Rattle.hdfs_model.specs.Steps.{is_opened, target_of}
 use Rattle.hdfs_cluster.specs.Stores.{Agrees}
-use Rattle.hdfs_cluster.proofs.Frames.{never_fall_refl, told_before, told_weaker}
+use Rattle.hdfs_cluster.proofs.Frames.{told_before, told_weaker}
 use Rattle.hdfs_cluster.specs.Repeating.{DoneOrNot, Repeats}
 use Rattle.hdfs_namenode.specs.Relaying.{Came, RelaysTold, TellsAsk}
 use Rattle.hdfs_namenode.proofs.Relayed.{relayed_done}
@@ -31,16 +24,16 @@ use Rattle.hdfs_file_writer.specs.Writers as files
 use Rattle.hdfs_file_writer.specs.declared.file_writer.FileWriter.{FileWriter}
 use Rattle.hdfs_commands.specs.Acting.{Acts, IsReady, world_at}
 use Rattle.hdfs_file_reader.specs.Looking.{OnlyLooks}
-use Rattle.hdfs_commands.specs.Preparing.{AreTold, LacksDefaults, Prepares, Remembers}
-use Rattle.hdfs_commands.specs.Session.{CarriesFile, CarriesOpen, Stands, after, defaults_known, writer_of}
+use Rattle.hdfs_commands.specs.Preparing.{Prepares, Remembers}
+use Rattle.hdfs_commands.specs.Session.{CarriesFile, CarriesOpen, Stands, after, writer_of}
 use Rattle.hdfs_commands.specs.declared.session.Session.{Session}
 use Rattle.hdfs_commands.proofs.Still.{carries_stays}
 use Rattle.hdfs_commands.proofs.Acted.{failed_acts, spares_but}
-use Rattle.hdfs_commands.proofs.Agreeing.{agrees_but, agrees_files, is_told}
+use Rattle.hdfs_commands.proofs.Agreeing.{agrees_files, is_told}
 use Rattle.hdfs_commands.proofs.Opening.{Over}
-use Rattle.hdfs_file_reader.proofs.Looking.{looks_from-Leaves, looks_refl, looks_trans}
+use Rattle.hdfs_file_reader.proofs.Looking.{looks_from-Leaves, looks_trans}
 use Rattle.hdfs_commands.proofs.Refusing.{ask_not_early, ask_tells, exception_cause, rose_cause}
-use Rattle.hdfs_commands.proofs.Sized.{remembers_refl, remembers_trans}
+use Rattle.hdfs_commands.proofs.Sized.{remembers_trans}
 
 -- an ask that was done or not may be done
 pub may_be_done : (ask : Ask) (p q : Picture) → DoneOrNot ask p q → MayBeDone ask p q
@@ -58,20 +51,12 @@ create_still name options = record { sends = λ sends. sends; found = λ old new
 pub append_still : (name : List ℕ) → IsStill (commands.Append name)
 append_still name = record { sends = λ sends. sends; found = λ old new path byte lost. lost }
 
--- options that are out of their limits
-pub options_acts : (s : Shown) (session : Session) (name : List ℕ) (options : WriteOptions) → Stands s session → are_options options ≡ false
-    → Acts (commands.Create name options) s session s (after {T = Reply} session (Err (errors.InvalidArgument args.Options))) (Err (errors.InvalidArgument args.Options))
-options_acts s session name options stands out =
-    failed_acts (commands.Create name options) (λ sends. sends) s s session session (errors.InvalidArgument args.Options) stands (looks_refl s) (λ r. refl) (remembers_refl session) (out, (tt, tt)) (λ path byte lost. lost)
-    (λ state ready. ((out, tt), agrees_but (spared (world_at session s) state (commands.Create name options) (errors.InvalidArgument args.Options)) s.picture state.files ready.ready.fits.agrees))
-    (λ state ready. record { each = λ p told r writer is. inr (ready.carried.each p told r writer is) })
-
 module _ (command : Command) (still : IsStill command) (s m : Shown) (session session' : Session) (stands : Stands s session)
     (prepares : Prepares s session m session') where
   kept : (r : List ℕ) → writer_of session' r ≡ writer_of session r
   kept r = ap (λ w. get_by_text w r) prepares.writers
 
-  agrees_still : (state : State) → IsReady s session state command → Agrees m.picture state.files
+  pub agrees_still : (state : State) → IsReady s session state command → Agrees m.picture state.files
   agrees_still state ready =
       agrees_files s.picture m.picture state.files (told_weaker SameButActive SameFiles s.picture m.picture (λ p q same. same.files) prepares.picture) ready.ready.fits.agrees
 
@@ -81,38 +66,8 @@ module _ (command : Command) (still : IsStill command) (s m : Shown) (session se
       let one = told_before SameButActive s.picture m.picture p prepares.picture told in
       carries_stays one.0 p one.2.files one.2.writes state r writer (ready.carried.each one.0 one.1 r writer is)
 
-  open_still : (state : State) → IsReady s session state command → CarriesOpen m session' state
+  pub open_still : (state : State) → IsReady s session state command → CarriesOpen m session' state
   open_still state ready = record { each = λ p told r writer is. inr (carried_still state ready p told r writer (sym (kept r) ∙ is)) }
-
-  -- want of memory, once the defaults were asked for
-  pub starved_acts : Acts command s session m (after {T = Reply} session' (Err errors.NoMemory)) (Err errors.NoMemory)
-  starved_acts =
-      failed_acts command still.sends s m session session' errors.NoMemory stands prepares.looks kept prepares.remembers (tt, (tt, tt)) (still.found s m)
-      (λ state ready. ((tt, tt), agrees_but (spared (world_at session s) state command errors.NoMemory) m.picture state.files (agrees_still state ready)))
-      open_still
-
-  lacks_cause : (state : State) → IsReady s session state command → (error : HdfsError) → TellsAsk s m error
-      → ((p : Picture) → s.picture ≡ Some p → (error ≡ errors.NoMemory) ⊎ CallsRose s.counts m) → Cause (world_at session s) state command s m error
-  lacks_cause state ready error tells why =
-      let told = is_told s.picture state.files ready.ready.fits.agrees in
-      ⊎_elim (λ memory. subst (Cause (world_at session s) state command s m) (sym memory) (tt, tt)) (rose_cause (world_at session s) state command s s m error (never_fall_refl s.counts) tells) (why told.0 told.1)
-
-  out_cause : UsesDefaults command → (state : State) → IsReady s session state command → (defaults : ServerDefaults) → are_defaults defaults ≡ false → AreTold s (defaults_known session) defaults → Cause (world_at session s) state command s m (errors.InvalidArgument args.Defaults)
-  out_cause uses state ready defaults out same =
-      let told = is_told s.picture state.files ready.ready.fits.agrees in
-      ((uses, ap (λ (o : Option Picture). are_defaults (defaults_of o)) told.1 ∙ ap are_defaults (sym (same told.0 told.1 ready.carried.defaults)) ∙ out), tt)
-
-  -- no defaults
-  pub lacks_acts : UsesDefaults command → (error : HdfsError) → LacksDefaults s session error m → Acts command s session m (after {T = Reply} session' (Err error)) (Err error)
-  lacks_acts uses error (inl fault) =
-      failed_acts command still.sends s m session session' error stands prepares.looks kept prepares.remembers (ask_tells command s s m error (never_fall_refl s.counts) fault.0) (still.found s m)
-      (λ state ready. (lacks_cause state ready error fault.0 fault.1, agrees_but (spared (world_at session s) state command error) m.picture state.files (agrees_still state ready)))
-      open_still
-  lacks_acts uses error (inr out) =
-      subst (λ (e : HdfsError). Acts command s session m (after {T = Reply} session' (Err e)) (Err e)) (sym out.0)
-      (failed_acts command still.sends s m session session' (errors.InvalidArgument args.Defaults) stands prepares.looks kept prepares.remembers (uses, (tt, tt)) (still.found s m)
-      (λ state ready. (out_cause uses state ready out.1 out.2 out.3, agrees_but (spared (world_at session s) state command (errors.InvalidArgument args.Defaults)) m.picture state.files (agrees_still state ready)))
-      open_still)
 
   module _ (t : Shown) (session'' : Session) (writers : (r : List ℕ) → writer_of session'' r ≡ writer_of session' r) (remembers : Remembers session' session'') (ask : Ask) (path : List ℕ)
       (called : (state : State) → target_of (world_at session s) command ≡ path)
@@ -153,7 +108,7 @@ module _ (command : Command) (still : IsStill command) (s m : Shown) (session se
         let h = cause state ready told.0 told.1 in
         others_open state ready told.0 told.1 h.1.0 h.1.1 h.1.2))
 
-    asked_cause : (state : State) → IsReady s session state command → (p : Picture) → m.picture ≡ Some p → (error : HdfsError) → TellsAsk m t error
+    pub asked_cause : (state : State) → IsReady s session state command → (p : Picture) → m.picture ≡ Some p → (error : HdfsError) → TellsAsk m t error
         → (q : Picture) → RelaysTold (CallsRose m.counts t) p ask (Err error) q → Cause (world_at session s) state command s t error
     asked_cause state ready p told error tells q (inl memory) = subst (Cause (world_at session s) state command s t) (sym memory.0) (tt, tt)
     asked_cause state ready p told error tells q (inr (inl refused)) =
@@ -171,28 +126,3 @@ module _ (command : Command) (still : IsStill command) (s m : Shown) (session se
         (λ state ready p told.
         (let to = came.told p told (repeats p) in
         (asked_cause state ready p told error came.relays.tells to.0 to.2, (to.0, to.1, may_be_done ask p to.0 (relayed_done (CallsRose m.counts t) p ask (Err error) to.0 tt to.2)))))
-
--- want of memory once the file was made, so that the session doesn't keep its writer
-pub unkept_acts : (command : Command) → IsStill command → (s m t : Shown) (session session' session'' : Session) → Stands s session → Prepares s session m session'
-    → ((r : List ℕ) → writer_of session'' r ≡ writer_of session' r) → Remembers session' session'' → (ask : Ask) (path : List ℕ)
-    → target_of (world_at session s) command ≡ path → ((state : State) → IsReady s session state command → (p : Picture) → m.picture ≡ Some p → Over p (world_at session s) state command path ask)
-    → OnlyLooks m t → ((p : Picture) → m.picture ≡ Some p → (q : Picture) × (t.picture ≡ Some q) × MayBeDone ask p q) → Acts command s session t (after {T = Reply} session'' (Err errors.NoMemory)) (Err errors.NoMemory)
-unkept_acts command still s m t session session' session'' stands prepares writers remembers ask path called over looks done =
-    late_acts command still s m session session' stands prepares t session'' writers remembers ask path (λ state. called) over errors.NoMemory refl looks (tt, (tt, tt)) (λ state ready p told. ((tt, tt), done p told))
-
--- no status of the file was answered, of which an answer over a told picture always tells
-pub unstated_acts : (command : Command) → IsStill command → (name : List ℕ) → (name ≡ path_of command) × WantsFile command → (s m t : Shown) (session session' session'' : Session) → Stands s session → Prepares s session m session'
-    → ((r : List ℕ) → writer_of session'' r ≡ writer_of session' r) → Remembers session' session'' → (ask : Ask) (path : List ℕ) → target_of (world_at session s) command ≡ path
-    → ((state : State) → IsReady s session state command → (p : Picture) → m.picture ≡ Some p → Over p (world_at session s) state command path ask) → OnlyLooks m t → t.last ≡ last_answers.Fine
-    → ((p : Picture) → m.picture ≡ Some p → ⊥) → Acts command s session t (after {T = Reply} session'' (Err (errors.FileNotFound name))) (Err (errors.FileNotFound name))
-unstated_acts command still name is s m t session session' session'' stands prepares writers remembers ask path called over looks last none =
-    late_acts command still s m session session' stands prepares t session'' writers remembers ask path (λ state. called) over (errors.FileNotFound name) refl looks (is, (last, tt)) (λ state ready p told. absurd (none p told))
-
--- the status of a new file tells encryption information, which an answer over a told picture never does
-pub unsupported_acts : (command : Command) → IsStill command → CanMeetEncryption command → (s m t : Shown) (session session' session'' : Session) → Stands s session → Prepares s session m session'
-    → ((r : List ℕ) → writer_of session'' r ≡ writer_of session' r) → Remembers session' session'' → (ask : Ask) (path : List ℕ) → target_of (world_at session s) command ≡ path
-    → ((state : State) → IsReady s session state command → (p : Picture) → m.picture ≡ Some p → Over p (world_at session s) state command path ask) → OnlyLooks m t
-    → ((p : Picture) → m.picture ≡ Some p → ⊥) → Acts command s session t (after {T = Reply} session'' (Err (errors.UnsupportedFeature features.Encryption))) (Err (errors.UnsupportedFeature features.Encryption))
-unsupported_acts command still can s m t session session' session'' stands prepares writers remembers ask path called over looks none =
-    late_acts command still s m session session' stands prepares t session'' writers remembers ask path (λ state. called) over (errors.UnsupportedFeature features.Encryption) refl looks (can, (tt, tt))
-    (λ state ready p told. absurd (none p told))

@@ -1,5 +1,5 @@
 -- What stands at a path is told: a command that asks once, and changes nothing.
-use Rattle.std.proofs.Common.{◌≡◌, ◌⊎◌, inl, inr, ⊎_elim, ℕ, ◌==◌, Bool, true, false, cond, List, [], Option, Some, None, Ok, Err, option_map, unwrap_or, refl, sym, ◌∙◌, ap, subst, arith}
+use Rattle.std.proofs.Common.{◌≡◌, inl, inr, ℕ, ◌==◌, Bool, true, false, cond, List, [], Option, Some, None, Ok, Err, option_map, unwrap_or, refl, sym, ◌∙◌, subst, arith}
 use Rattle.std.specs.Prelude.{Result}
 use Rattle.hdfs_cluster.specs.declared.asks.Answer.{Answer}
 use Rattle.hdfs_cluster.specs.declared.asks.Answer.TheVariants as answers
@@ -21,10 +21,9 @@ use Rattle.hdfs_model.specs.declared.commands.Command.{Command}
 use Rattle.hdfs_model.specs.declared.commands.Command.TheVariants as commands
 use Rattle.hdfs_model.specs.declared.commands.Reply.{Reply}
 use Rattle.hdfs_model.specs.declared.commands.Reply.TheVariants as replies
-use Rattle.hdfs_model.specs.declared.commands.WriteOptions.{WriteOptions}
 use Rattle.hdfs_model.specs.Anywhere.{IsInfo}
 use Rattle.hdfs_model.specs.Statuses.{info_by}
-use Rattle.hdfs_model.specs.Steps.{Refused, is_opened, step}
+use Rattle.hdfs_model.specs.Steps.{is_opened}
 use Rattle.hdfs_model.proofs.Told.{below_file_at, informs_at, informs_none_at, missed_at}
 use Rattle.hdfs_names.specs.Paths.{absolute, is_path}
 use Rattle.hdfs_namenode.specs.Asked.{as_answer}
@@ -32,17 +31,21 @@ use Rattle.hdfs_namenode.specs.Relaying.{Came}
 use Rattle.hdfs_namenode.proofs.Relayed.{relayed_done, relayed_row}
 use Rattle.hdfs_file_reader.proofs.Looking.{looks_from-Leaves}
 use Rattle.hdfs_commands.specs.Acting.{Acts, IsReady, world_at}
-use Rattle.hdfs_commands.specs.Preparing.{Remembers}
-use Rattle.hdfs_commands.specs.Session.{Stands, after, defaults_known, opened_of, writer_of}
+use Rattle.hdfs_namenode.specs.Clients.{SameClient}
+use Rattle.hdfs_namenode.specs.declared.protocol.NamenodeProtocol.{NamenodeProtocol}
+use Rattle.hdfs_commands.specs.Asking.{AreAnswered}
+use Rattle.hdfs_commands.specs.Executing.{Executes}
+use Rattle.hdfs_commands.proofs.Executed.{asked_executes, turned_executes, unturned_executes}
+use Rattle.hdfs_commands.specs.Session.{Stands, after, has_failed, opened_of, writer_of}
 use Rattle.hdfs_commands.specs.Whole.{KeepsBlocksWhole}
 use Rattle.hdfs_commands.specs.declared.session.Session.{Session}
 use Rattle.hdfs_commands.proofs.Agreeing.{agrees_files, agrees_told, is_told}
 use Rattle.hdfs_commands.proofs.Failing.{IsStill, late_acts, may_be_done}
 use Rattle.hdfs_commands.proofs.Opening.{Over}
 use Rattle.hdfs_commands.proofs.Refusing.{step_there}
-use Rattle.hdfs_commands.proofs.Sized.{remembers_refl}
+use Rattle.hdfs_commands.proofs.Sized.{remembers_asked}
 use Rattle.hdfs_commands.proofs.Still.{file_stays}
-use Rattle.hdfs_commands.proofs.Turned.{Turns, asked_acts, prepares_refl, turned_acts}
+use Rattle.hdfs_commands.proofs.Turned.{Turns, prepares_refl}
 use Rattle.hdfs_commands.proofs.WholeOpening.{stays_files}
 use Rattle.hdfs_commands.proofs.WholeStarting.{leaving_whole}
 
@@ -67,8 +70,7 @@ info_quiet path p q (inr (inl done)) = by done.0 done.2
     by answer row = absurd row
 info_quiet path p q (inr (inr own)) = absurd own.0
 
-module _ (s t : Shown) (session session' : Session) (stands : Stands s session) (writers : (r : List ℕ) → writer_of session' r ≡ writer_of session r) (remembers : Remembers session session')
-    (path name : List ℕ) (named : is_path path ≡ true) (called : absolute session.settings.home name ≡ path) (closed : opened_of session path ≡ false) where
+module _ (s t : Shown) (session : Session) (path name : List ℕ) (named : is_path path ≡ true) (called : absolute session.settings.home name ≡ path) (closed : opened_of session path ≡ false) where
   abbrev info : Command
   info = commands.Info name
 
@@ -108,28 +110,28 @@ module _ (s t : Shown) (session session' : Session) (stands : Stands s session) 
         let row : Row p ask (answers.GetFileInfo status) one.0 = relayed_row (CallsRose s.counts t) p ask (answers.GetFileInfo status) one.0 (λ is. absurd (cc is)) (λ is. absurd (cc is)) one.2 in
         (one.0, one.1, row.0, row.1)
 
-  -- an error of the ask
-  pub untold_acts : (error : HdfsError) → Came s ask (Err error) t → Acts info s session t (after {T = Reply} session' (Err error)) (Err error)
-  untold_acts error came = asked_acts info s t session session' stands writers remembers (info_still name) ask path called info_over error came (λ p. info_repeats path p)
+  module _ (namenode : NamenodeProtocol) (stands : Stands s session) (keeps : SameClient session.namenode namenode) (came : Came s ask (Ok (answers.GetFileInfo None)) t) where
+    abbrev asked : Session
+    asked = record session { namenode = namenode }
 
-  -- nothing stands there
-  pub missed_acts : Came s ask (Ok (answers.GetFileInfo None)) t → Acts info s session t (after {T = Reply} session' (Err (errors.FileNotFound name))) (Err (errors.FileNotFound name))
-  missed_acts came =
-      late_acts info (info_still name) s s session session stands (prepares_refl s session) t session' writers remembers ask path (λ state. called) info_over (errors.FileNotFound name) refl
-      (looks_from-Leaves s t came.relays.leaves) ((refl, tt), (came.relays.fine, tt))
-      (λ state ready p told.
-      (let one = row_of state ready p told None came in
-      let why = missed_at p state ready.ready.fits.is_state (agrees state ready p told) path one.2 in
-      let is = step_there (world_at session s) state path named info called
-      ∙ informs_none_at p state ready.ready.fits.is_state (agrees state ready p told) path (world_at session s) name (Lacks Missing) (unopened state ready p told) why in
-      (((Missing, is), tt), (one.0, one.1, inl one.3))))
+    -- nothing stands there
+    missed_acts : Acts info s session t (after {T = Reply} asked (Err (errors.FileNotFound name))) (Err (errors.FileNotFound name))
+    missed_acts =
+        late_acts info (info_still name) s s session session stands (prepares_refl s session) t asked (λ r. refl) (remembers_asked session namenode keeps) ask path (λ state. called) info_over
+        (errors.FileNotFound name) refl (looks_from-Leaves s t came.relays.leaves) ((refl, tt), (came.relays.fine, tt))
+        (λ state ready p told.
+        (let one = row_of state ready p told None came in
+        let why = missed_at p state ready.ready.fits.is_state (agrees state ready p told) path one.2 in
+        let is = step_there (world_at session s) state path named info called
+        ∙ informs_none_at p state ready.ready.fits.is_state (agrees state ready p told) path (world_at session s) name (Lacks Missing) (unopened state ready p told) why in
+        (((Missing, is), tt), (one.0, one.1, inl one.3))))
 
-  -- and there is no memory to say so
-  pub unsaid_acts : Came s ask (Ok (answers.GetFileInfo None)) t → Acts info s session t (after {T = Reply} session' (Err errors.NoMemory)) (Err errors.NoMemory)
-  unsaid_acts came =
-      late_acts info (info_still name) s s session session stands (prepares_refl s session) t session' writers remembers ask path (λ state. called) info_over errors.NoMemory refl
-      (looks_from-Leaves s t came.relays.leaves) (tt, (tt, tt))
-      (λ state ready p told. (let one = row_of state ready p told None came in ((tt, tt), (one.0, one.1, inl one.3))))
+    -- and there is no memory to say so
+    unsaid_acts : Acts info s session t (after {T = Reply} asked (Err errors.NoMemory)) (Err errors.NoMemory)
+    unsaid_acts =
+        late_acts info (info_still name) s s session session stands (prepares_refl s session) t asked (λ r. refl) (remembers_asked session namenode keeps) ask path (λ state. called) info_over
+        errors.NoMemory refl (looks_from-Leaves s t came.relays.leaves) (tt, (tt, tt))
+        (λ state ready p told. (let one = row_of state ready p told None came in ((tt, tt), (one.0, one.1, inl one.3))))
 
   module _ (status : FileStatusMsg) (came : Came s ask (Ok (answers.GetFileInfo (Some status))) t) where
     informs : (state : State) → IsReady s session state info → Turns s t session state info (info_by status)
@@ -154,13 +156,8 @@ module _ (s t : Shown) (session session' : Session) (stands : Stands s session) 
           keeps = λ r tail bytes opened c. file_stays was.0 one.0 one.3.files one.3.writes r tail bytes c;
         }
 
-    -- what stands there is told
-    pub told_acts : defaults_known session' ≡ defaults_known session → session'.failed ≡ session.failed → Acts info s session t session' (Ok (info_by status))
-    told_acts known fine =
-        turned_acts info s t session session' stands writers remembers known fine (info_by status) informs (info_reply status) (looks_from-Leaves s t came.relays.leaves)
-
 -- whatever comes of it, the blocks of files stay
-pub info_whole : (s t : Shown) (session session' : Session) (path name : List ℕ) → ((r : List ℕ) → writer_of session' r ≡ writer_of session r) → (answer : Result (Option FileStatusMsg) HdfsError)
+info_whole : (s t : Shown) (session session' : Session) (path name : List ℕ) → ((r : List ℕ) → writer_of session' r ≡ writer_of session r) → (answer : Result (Option FileStatusMsg) HdfsError)
     → Came s (asks.GetFileInfo path) (as_answer answers.GetFileInfo answer) t → (result : Result Reply HdfsError) → KeepsBlocksWhole (commands.Info name) s session t session' result
 info_whole s t session session' path name writers answer came result state ready =
     let was = is_told s.picture state.files ready.ready.fits.agrees in
@@ -169,36 +166,40 @@ info_whole s t session session' path name writers answer came result state ready
     let done = may_be_done ask was.0 to.0 (relayed_done (CallsRose s.counts t) was.0 ask (as_answer answers.GetFileInfo answer) to.0 came.relays.shaped to.2) in
     leaving_whole (commands.Info name) s t session session' was.0 to.0 was.1 to.1 (stays_files was.0 to.0 (info_quiet path was.0 to.0 done).files) writers (λ name' options same. cc same) result
 
--- a reply is had of a status alone
-pub some_status : (status : Option FileStatusMsg) (reply : Reply) → option_map info_by status ≡ Some reply → (told : FileStatusMsg) × (status ≡ Some told) × (info_by told ≡ reply)
-some_status None reply is = absurd (cc (is))
-some_status (Some told) reply is = (told, refl, (let same : info_by told ≡ reply = cc (is) in same))
+module _ {may_answer : Ask → Answer → Type 0} {s t : Shown} {session : Session} {namenode : NamenodeProtocol} {path name : List ℕ} (stands : Stands s session) (fine : has_failed session ≡ false)
+    (answered : AreAnswered may_answer session) (keeps : SameClient session.namenode namenode) (named : is_path path ≡ true) (called : absolute session.settings.home name ≡ path) (closed : opened_of session path ≡ false) where
+  -- an error of the ask
+  pub untold_executes : {error : HdfsError} → Came s (asks.GetFileInfo path) (Err error) t
+      → Executes may_answer (commands.Info name) s session t (record session { namenode = namenode; failed = true }) (Err error)
+  untold_executes {error} came =
+      unturned_executes stands fine answered keeps named called (λ opened. cc (closed, opened)) (λ session' writers. info_whole s t session session' path name writers (Err error) came)
+      (info_still name) (asks.GetFileInfo path) (info_over s t session path name named called closed) (info_repeats path) came
 
-pub no_status : (status : Option FileStatusMsg) → option_map info_by status ≡ None → status ≡ None
-no_status None is = refl
-no_status (Some told) is = absurd (cc (is))
+  -- what stands there is told
+  pub told_executes : (status : Option FileStatusMsg) {reply : Reply} → option_map info_by status ≡ Some reply → Came s (asks.GetFileInfo path) (Ok (answers.GetFileInfo status)) t
+      → Executes may_answer (commands.Info name) s session t (record session { namenode = namenode }) (Ok reply)
+  told_executes None is came = absurd (cc is)
+  told_executes (Some told) {reply} is came =
+      let same : info_by told ≡ reply = cc is in
+      subst (λ (r : Reply). Executes may_answer (commands.Info name) s session t (record session { namenode = namenode }) (Ok r)) same
+      (turned_executes stands fine answered keeps named called (λ opened. cc (closed, opened)) (λ session' writers. info_whole s t session session' path name writers (Ok (Some told)) came)
+      (info_by told) (informs s t session path name named called closed told came) (info_reply told) came.relays.leaves)
 
--- what stands there is told, by the reply that is had of an answer
-pub some_acts : (s t : Shown) (session session' : Session) → Stands s session → ((r : List ℕ) → writer_of session' r ≡ writer_of session r) → Remembers session session' → (path name : List ℕ) → is_path path ≡ true
-    → absolute session.settings.home name ≡ path → opened_of session path ≡ false → (status : Option FileStatusMsg) (reply : Reply) → option_map info_by status ≡ Some reply → Came s (asks.GetFileInfo path) (Ok (answers.GetFileInfo status)) t
-    → defaults_known session' ≡ defaults_known session → session'.failed ≡ session.failed → Acts (commands.Info name) s session t session' (Ok reply)
-some_acts s t session session' stands writers remembers path name named called closed status reply is came known fine =
-    let told = some_status status reply is in
-    subst (λ (r : Reply). Acts (commands.Info name) s session t session' (Ok r)) told.2
-    (told_acts s t session session' stands writers remembers path name named called closed told.0
-    (subst (λ (o : Option FileStatusMsg). Came s (asks.GetFileInfo path) (Ok (answers.GetFileInfo o)) t) told.1 came) known fine)
+  -- nothing stands there
+  pub missed_executes : (status : Option FileStatusMsg) {text : List ℕ} → option_map info_by status ≡ None → Came s (asks.GetFileInfo path) (Ok (answers.GetFileInfo status)) t
+      → may_answer (asks.GetFileInfo path) (answers.GetFileInfo status) → text ≡ name
+      → Executes may_answer (commands.Info name) s session t (record session { namenode = namenode; failed = true }) (Err (errors.FileNotFound text))
+  missed_executes (Some told) is came said same = absurd (cc is)
+  missed_executes None is came said same =
+      subst (λ (x : List ℕ). Executes may_answer (commands.Info name) s session t (record session { namenode = namenode; failed = true }) (Err (errors.FileNotFound x))) (sym same)
+      (asked_executes stands fine answered keeps named called (λ opened. cc (closed, opened)) (λ session' writers. info_whole s t session session' path name writers (Ok None) came)
+      (Err (errors.FileNotFound name))
+      (missed_acts s t session path name named called closed namenode stands keeps came) (inl tt, said))
 
--- nothing stands there, where no reply is had of an answer
-module _ (s t : Shown) (session session' : Session) (stands : Stands s session) (writers : (r : List ℕ) → writer_of session' r ≡ writer_of session r) (remembers : Remembers session session')
-    (path name : List ℕ) (named : is_path path ≡ true) (called : absolute session.settings.home name ≡ path) (closed : opened_of session path ≡ false)
-    (status : Option FileStatusMsg) (none : option_map info_by status ≡ None) (came : Came s (asks.GetFileInfo path) (Ok (answers.GetFileInfo status)) t) where
-  came_none : Came s (asks.GetFileInfo path) (Ok (answers.GetFileInfo None)) t
-  came_none = subst (λ (o : Option FileStatusMsg). Came s (asks.GetFileInfo path) (Ok (answers.GetFileInfo o)) t) (no_status status none) came
-
-  pub none_acts : (text : List ℕ) → text ≡ name → Acts (commands.Info name) s session t (after {T = Reply} session' (Err (errors.FileNotFound text))) (Err (errors.FileNotFound text))
-  none_acts text is =
-      subst (λ (x : List ℕ). Acts (commands.Info name) s session t (after {T = Reply} session' (Err (errors.FileNotFound x))) (Err (errors.FileNotFound x))) (sym is)
-      (missed_acts s t session session' stands writers remembers path name named called closed came_none)
-
-  pub none_unsaid : Acts (commands.Info name) s session t (after {T = Reply} session' (Err errors.NoMemory)) (Err errors.NoMemory)
-  none_unsaid = unsaid_acts s t session session' stands writers remembers path name named called closed came_none
+  -- and there is no memory to say so
+  pub unsaid_executes : (status : Option FileStatusMsg) → option_map info_by status ≡ None → Came s (asks.GetFileInfo path) (Ok (answers.GetFileInfo status)) t
+      → Executes may_answer (commands.Info name) s session t (record session { namenode = namenode; failed = true }) (Err errors.NoMemory)
+  unsaid_executes (Some told) is came = absurd (cc is)
+  unsaid_executes None is came =
+      asked_executes stands fine answered keeps named called (λ opened. cc (closed, opened)) (λ session' writers. info_whole s t session session' path name writers (Ok None) came)
+      (Err errors.NoMemory) (unsaid_acts s t session path name named called closed namenode stands keeps came) (inl tt, tt)

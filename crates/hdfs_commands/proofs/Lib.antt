@@ -2,14 +2,14 @@ pub mod AbandonFiles
 pub mod Abandoning
 pub mod Acted
 pub mod Answered
-pub mod Asking
+pub mod Beginning
 pub mod Begun
 pub mod Beside
 pub mod Causing
 pub mod CloseActs
-pub mod Connected
 pub mod Early
 pub mod Encrypting
+pub mod Executed
 pub mod Failing
 pub mod Limited
 pub mod InfoActs
@@ -31,6 +31,7 @@ pub mod Refused
 pub mod Refusing
 pub mod SendActs
 pub mod SendFails
+pub mod Sending
 pub mod Sized
 pub mod Sizing
 pub mod Starting
@@ -41,10 +42,8 @@ pub mod Turned
 pub mod WholeNaming
 pub mod WholeOpening
 pub mod WholeStarting
-pub mod WholeWriting
 pub mod WithWriting
 pub mod WriteActs
-pub mod WriteEnds
 pub mod WriteFaults
 pub mod Agreeing
 pub mod Allowing

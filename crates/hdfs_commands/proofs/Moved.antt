@@ -11,43 +11,20 @@ use Rattle.hdfs_model.specs.Limits.{are_settings}
 use Rattle.hdfs_cluster.specs.Shown.{Shown}
 use Rattle.hdfs_file_writer.specs.Writers as files
 use Rattle.hdfs_file_writer.specs.declared.file_writer.FileWriter.{FileWriter}
-use Rattle.hdfs_file_writer.proofs.Beside.{still_stands}
 use Rattle.hdfs_commands.specs.Preparing.{Remembers}
 use Rattle.hdfs_commands.specs.Session.{HasLink, IsSized, OnlyOwnLinks, Stands, writer_of, opened_of}
 use Rattle.hdfs_commands.specs.declared.session.Session.{Session}
 use Rattle.hdfs_commands.proofs.Sized.{named_still, reaches_still, sized_still}
+use Rattle.hdfs_commands.proofs.Still.{writer_stands}
 
 module _ (old new : Shown) (same : (link : ℕ) → new.writes link ≡ old.writes link) where
-  -- a writer of a file stands as it stood
-  pub file_moved : (writer : FileWriter) → files.Stands old writer → files.Stands new writer
-  file_moved writer stands = record {
-    packets = stands.packets;
-    going = λ block is.
-        (let h = stands.going block is in
-        record {
-          limited = h.limited;
-          stands = still_stands old new block (λ link has. same link) h.stands;
-          size = h.size;
-          chunk = h.chunk;
-          packet_size = h.packet_size;
-          settings = h.settings;
-          plain = h.plain;
-          plan = h.plan;
-        });
-    is_open = stands.is_open;
-    idle = stands.idle;
-    reopened = stands.reopened;
-    apart = stands.apart;
-    done = stands.done;
-  }
-
   module _ (session session' : Session) (writers_same : (path : List ℕ) → writer_of session' path ≡ writer_of session path) where
-    -- so does a session with the same writers
+    -- a session with the same writers stands as it stood
     pub session_moved : new.namenodes ≡ old.namenodes → Remembers session session' → (session'.failed ≡ false → session.failed ≡ false) → Stands old session
         → Stands new session'
     session_moved count remembers fine stands = record {
       limited = ap are_settings remembers.settings ∙ stands.limited;
-      each = λ path writer is. (let h = stands.each path writer (sym (writers_same path) ∙ is) in (file_moved writer h.0, h.1));
+      each = λ path writer is. (let h = stands.each path writer (sym (writers_same path) ∙ is) in (writer_stands old new writer (λ link has. same link) h.0, h.1));
       fine = λ failed path writer is. stands.fine (fine failed) path writer (sym (writers_same path) ∙ is);
       apart = λ path other writer writer' is is'. stands.apart path other writer writer' (sym (writers_same path) ∙ is) (sym (writers_same other) ∙ is');
       reaches = reaches_still session session' remembers old new count stands.reaches;

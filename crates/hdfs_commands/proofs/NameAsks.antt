@@ -1,6 +1,6 @@
 -- What the asks do that change names: the one for a new directory, and the one that deletes. Each goes path by path, by `with_parents` or
 -- `files_without` on both sides; a path that the session has open is none of those that change.
-use Rattle.std.proofs.Common.{◌≡◌, ◌≢◌, ◌⊎◌, inl, inr, ⊎_elim, ℕ, Bool, true, false, cond, ◌&&◌, ◌||◌, List, [], ◌∷◌, Contains, Option, Some, None, is_none, unwrap_or, Ok, refl, sym, ◌∙◌, ap, subst}
+use Rattle.std.proofs.Common.{◌≡◌, ◌≢◌, ◌⊎◌, inl, inr, ⊎_elim, ℕ, Bool, true, false, cond, ◌&&◌, ◌||◌, List, [], ◌∷◌, Option, Some, None, is_none, unwrap_or, Ok, refl, sym, ◌∙◌, ap, subst}
 use Rattle.std.proofs.lemmas.Bool.{false≢true}
 use Rattle.std.proofs.lemmas.Slice.Eq.{bytes_eq-Decides}
 use Rattle.std.specs.List.{list_any}
@@ -9,28 +9,25 @@ use Rattle.hdfs_cluster.specs.declared.asks.Answer.{Answer}
 use Rattle.hdfs_cluster.specs.declared.asks.Answer.TheVariants as answers
 use Rattle.hdfs_cluster.specs.declared.asks.Ask.{Ask}
 use Rattle.hdfs_cluster.specs.declared.asks.Ask.TheVariants as asks
-use Rattle.hdfs_cluster.specs.declared.picture.Entry.{Entry}
 use Rattle.hdfs_cluster.specs.declared.picture.Entry.TheVariants as entries
-use Rattle.hdfs_cluster.specs.declared.picture.FileEntry.{FileEntry}
 use Rattle.hdfs_cluster.specs.Deleting.{DeletesFrom}
 use Rattle.hdfs_cluster.specs.Effects.{Changes, KeepsBytes}
 use Rattle.hdfs_cluster.specs.Failures.{CallsRose}
 use Rattle.hdfs_cluster.specs.Files.{Directory, IsState, Kind, Dir, State, kinds_of}
 use Rattle.hdfs_cluster.specs.Listing.{IsMissing}
 use Rattle.hdfs_cluster.specs.Names.{is_within}
-use Rattle.hdfs_cluster.specs.Namenode.{IsRefusal, MayBeDone, Row, StandsForAny}
+use Rattle.hdfs_cluster.specs.Namenode.{MayBeDone, Row, StandsForAny}
 use Rattle.hdfs_cluster.specs.Picture.{Picture, SameButActive, kinds}
-use Rattle.hdfs_cluster.specs.Refusals.{Refusal, NotEmpty, above_refusal, mkdirs_refusal, with_parents}
-use Rattle.hdfs_cluster.specs.Repeating.{Done as DoneOnce}
+use Rattle.hdfs_cluster.specs.Refusals.{NotEmpty, above_refusal, mkdirs_refusal, with_parents}
 use Rattle.hdfs_cluster.specs.Shown.{Shown}
-use Rattle.hdfs_cluster.specs.Sound.{IsSound, IsFileAt}
+use Rattle.hdfs_cluster.specs.Sound.{IsSound}
 use Rattle.hdfs_cluster.specs.Stores.{AgreesAt}
 use Rattle.hdfs_cluster.proofs.NamesRepeating.{delete_repeats, make_repeats}
 use Rattle.hdfs_model.specs.declared.commands.Command.{Command}
 use Rattle.hdfs_model.specs.declared.commands.Command.TheVariants as commands
 use Rattle.hdfs_model.specs.declared.commands.Reply.TheVariants as replies
 use Rattle.hdfs_model.specs.Sessions.{touched}
-use Rattle.hdfs_model.specs.Steps.{World, Done, Refused, files_without, is_opened, is_opened_within, step, target_of, with_directory}
+use Rattle.hdfs_model.specs.Steps.{World, Done, files_without, is_opened, is_opened_within, step, target_of, with_directory}
 use Rattle.hdfs_model.proofs.Deleted.{deletes_at, full_at, missing_agrees, missing_at, refused_above_at, without_path}
 use Rattle.hdfs_model.proofs.Made.{made_agrees, makes_at, refuses_at}
 use Rattle.hdfs_model.proofs.Removing.{delete_agrees, stays}

@@ -1,26 +1,22 @@
 -- A new directory, and a deletion, as commands of a session.
-use Rattle.std.proofs.Common.{◌≡◌, ◌≢◌, ◌⊎◌, inl, inr, ⊎_elim, ℕ, Bool, true, false, cond, List, Option, Some, None, Ok, Err, refl, sym, ◌∙◌, ap}
+use Rattle.std.proofs.Common.{◌≡◌, ◌≢◌, ◌⊎◌, inl, inr, ⊎_elim, ℕ, Bool, true, false, cond, List, Some, None, Ok, Err, refl, sym, ◌∙◌, ap}
 use Rattle.std.specs.List.{list_any}
 use Rattle.std.specs.Str.{bytes_eq}
-use Rattle.std.specs.Prelude.{Result}
 use Rattle.hdfs_cluster.specs.declared.asks.Answer.TheVariants as answers
 use Rattle.hdfs_cluster.specs.declared.asks.Ask.TheVariants as asks
 use Rattle.hdfs_cluster.specs.declared.errors.ArgFault.TheVariants as args
-use Rattle.hdfs_cluster.specs.declared.errors.HdfsError.{HdfsError}
 use Rattle.hdfs_cluster.specs.declared.errors.HdfsError.TheVariants as errors
-use Rattle.hdfs_cluster.specs.Files.{Dir, State, kinds_of}
+use Rattle.hdfs_cluster.specs.Files.{Dir, State}
 use Rattle.hdfs_cluster.specs.Limits.{is_permission}
-use Rattle.hdfs_cluster.specs.Names.{is_within}
 use Rattle.hdfs_cluster.specs.Picture.{Picture}
 use Rattle.hdfs_cluster.specs.Shown.{Shown}
 use Rattle.hdfs_cluster.specs.Sound.{IsSound}
 use Rattle.hdfs_cluster.specs.Stores.{AgreesAt}
-use Rattle.hdfs_cluster.proofs.NamesRepeating.{delete_repeats, make_repeats}
 use Rattle.hdfs_model.specs.declared.commands.Command.{Command}
 use Rattle.hdfs_model.specs.declared.commands.Command.TheVariants as commands
 use Rattle.hdfs_model.specs.declared.commands.Reply.{Reply}
 use Rattle.hdfs_model.specs.declared.commands.Reply.TheVariants as replies
-use Rattle.hdfs_model.specs.Owing.{IsMisplaced, IsOpenWithin}
+use Rattle.hdfs_model.specs.Owing.{IsOpenWithin}
 use Rattle.hdfs_model.specs.Sessions.{spared}
 use Rattle.hdfs_model.specs.Steps.{is_opened_within, with_directory}
 use Rattle.hdfs_model.proofs.Deleted.{is_false, state_without, without_path}
@@ -28,23 +24,21 @@ use Rattle.hdfs_model.proofs.Made.{state_with_directory}
 use Rattle.hdfs_model.proofs.Misplaced.{within_opened}
 use Rattle.hdfs_names.specs.Paths.{root, absolute, ancestors, is_path}
 use Rattle.hdfs_namenode.specs.Relaying.{Came}
-use Rattle.hdfs_file_reader.proofs.Looking.{looks_from-Leaves, looks_refl}
-use Rattle.hdfs_file_writer.specs.Tails.{Tail, FileCarries}
+use Rattle.hdfs_file_reader.proofs.Looking.{looks_refl}
 use Rattle.hdfs_cluster.specs.Refusals.{mkdirs_refusal}
 use Rattle.hdfs_commands.specs.Acting.{Acts, IsReady, world_at}
-use Rattle.hdfs_commands.specs.Preparing.{Remembers}
-use Rattle.hdfs_commands.specs.Session.{Stands, after, defaults_known, opened_of, writer_of}
+use Rattle.hdfs_commands.specs.Session.{Stands, after, opened_of}
 use Rattle.hdfs_commands.specs.declared.session.Session.{Session}
 use Rattle.hdfs_commands.proofs.Acted.{failed_acts}
 use Rattle.hdfs_commands.proofs.Agreeing.{agrees_but, agrees_told, is_told}
 use Rattle.hdfs_commands.proofs.Failing.{IsStill}
-use Rattle.hdfs_commands.proofs.NameAsks.{Goes, StoodNot, above_stays, delete_over, dir_agrees, dir_keeps, gone_agrees, gone_files, gone_keeps, goes_step, make_over, makes_step, none_not, open_outside, was_dir, was_gone}
+use Rattle.hdfs_commands.proofs.NameAsks.{above_stays, delete_over, dir_agrees, dir_keeps, gone_agrees, gone_keeps, goes_step, make_over, makes_step, none_not, open_outside, was_dir, was_gone}
 use Rattle.hdfs_commands.proofs.OneFile.{not_same}
 use Rattle.hdfs_commands.proofs.Opening.{Over, open_apart}
 use Rattle.hdfs_commands.proofs.Refusing.{kinds_same}
 use Rattle.hdfs_commands.proofs.Sized.{remembers_refl}
 use Rattle.hdfs_commands.proofs.Still.{file_stays}
-use Rattle.hdfs_commands.proofs.Turned.{Turns, asked_acts, turned_acts}
+use Rattle.hdfs_commands.proofs.Turned.{Turns}
 
 -- the two ask for no bytes, and send none
 pub mkdirs_still : (name : List ℕ) (permission : ℕ) (parents : Bool) → IsStill (commands.Mkdirs name permission parents)
@@ -61,23 +55,19 @@ bits_acts s session name permission parents stands out =
     (λ state ready. ((out, tt), agrees_but (spared (world_at session s) state (commands.Mkdirs name permission parents) (errors.InvalidArgument args.Options)) s.picture state.files ready.ready.fits.agrees))
     (λ state ready. record { each = λ p told r writer is. inr (ready.carried.each p told r writer is) })
 
-module _ (s t : Shown) (session session' : Session) (stands : Stands s session) (writers : (r : List ℕ) → writer_of session' r ≡ writer_of session r) (remembers : Remembers session session')
-    (path name : List ℕ) (named : is_path path ≡ true) (called : absolute session.settings.home name ≡ path) where
+module _ (s t : Shown) (session : Session) (path name : List ℕ) (named : is_path path ≡ true) (called : absolute session.settings.home name ≡ path) where
   module _ (permission : ℕ) (parents : Bool) (closed : opened_of session path ≡ false) where
     abbrev mkdirs : Command
     mkdirs = commands.Mkdirs name permission parents
 
-    made_over : (state : State) → IsReady s session state mkdirs → (p : Picture) → s.picture ≡ Some p → Over p (world_at session s) state mkdirs path (asks.Mkdirs path permission parents)
+    -- a refusal is the step's
+    pub made_over : (state : State) → IsReady s session state mkdirs → (p : Picture) → s.picture ≡ Some p → Over p (world_at session s) state mkdirs path (asks.Mkdirs path permission parents)
     made_over state ready p told =
         make_over path permission parents p (world_at session s) state name (agrees_told s.picture p state.files ready.ready.fits.agrees told) named (ready.ready.opened path ∙ closed) called
 
-    -- an error of the ask
-    pub unmade_acts : (error : HdfsError) → Came s (asks.Mkdirs path permission parents) (Err error) t → Acts mkdirs s session t (after {T = Reply} session' (Err error)) (Err error)
-    unmade_acts error came =
-        asked_acts mkdirs s t session session' stands writers remembers (mkdirs_still name permission parents) (asks.Mkdirs path permission parents) path called made_over error came (λ p. make_repeats path permission parents p)
-
     module _ (done : Bool) (limited : is_permission permission ≡ true) (came : Came s (asks.Mkdirs path permission parents) (Ok (answers.Mkdirs done)) t) where
-      makes : (state : State) → IsReady s session state mkdirs → Turns s t session state mkdirs replies.Made
+      -- the directory is there
+      pub makes : (state : State) → IsReady s session state mkdirs → Turns s t session state mkdirs replies.Made
       makes state ready =
           let was = is_told s.picture state.files ready.ready.fits.agrees in
           let p = was.0 in
@@ -104,11 +94,6 @@ module _ (s t : Shown) (session session' : Session) (stands : Stands s session) 
             keeps = λ r tail bytes opened c. dir_keeps path permission parents p now.0 now.2 r tail bytes (open_apart state path r unopened opened) c;
           }
 
-      -- the directory is there
-      pub made_acts : defaults_known session' ≡ defaults_known session → session'.failed ≡ session.failed → Acts mkdirs s session t session' (Ok replies.Made)
-      made_acts known fine =
-          turned_acts mkdirs s t session session' stands writers remembers known fine replies.Made makes refl (looks_from-Leaves s t came.relays.leaves)
-
   module _ (recursive : Bool) (sound : (p : Picture) → s.picture ≡ Some p → IsSound p) (placed : (path ≡ root) ⊎ IsOpenWithin (opened_of session) path → ⊥) where
     abbrev delete : Command
     delete = commands.Delete name recursive
@@ -119,17 +104,14 @@ module _ (s t : Shown) (session session' : Session) (stands : Stands s session) 
     unopened : (state : State) → IsReady s session state delete → is_opened_within state path ≡ false
     unopened state ready = is_false (is_opened_within state path) (λ is. placed (inr (within_opened (opened_of session) state ready.ready.opened path is)))
 
-    gone_over : (state : State) → IsReady s session state delete → (p : Picture) → s.picture ≡ Some p → Over p (world_at session s) state delete path (asks.Delete path recursive)
+    -- a refusal is the step's
+    pub gone_over : (state : State) → IsReady s session state delete → (p : Picture) → s.picture ≡ Some p → Over p (world_at session s) state delete path (asks.Delete path recursive)
     gone_over state ready p told =
         delete_over path recursive p (world_at session s) state name ready.ready.fits.is_state (sound p told) (agrees_told s.picture p state.files ready.ready.fits.agrees told) named apart (unopened state ready) called
 
-    -- an error of the ask
-    pub kept_acts : (error : HdfsError) → Came s (asks.Delete path recursive) (Err error) t → Acts delete s session t (after {T = Reply} session' (Err error)) (Err error)
-    kept_acts error came =
-        asked_acts delete s t session session' stands writers remembers (delete_still name recursive) (asks.Delete path recursive) path called gone_over error came (λ p. delete_repeats path recursive p)
-
     module _ (done : Bool) (came : Came s (asks.Delete path recursive) (Ok (answers.Delete done)) t) where
-      goes : (state : State) → IsReady s session state delete → Turns s t session state delete replies.Deleted
+      -- what stood there is gone
+      pub goes : (state : State) → IsReady s session state delete → Turns s t session state delete replies.Deleted
       goes state ready =
           let was = is_told s.picture state.files ready.ready.fits.agrees in
           let p = was.0 in
@@ -154,8 +136,3 @@ module _ (s t : Shown) (session session' : Session) (stands : Stands s session) 
                 (λ none. file_stays p now.0 none.1.files none.1.writes r tail bytes c)
                 now.2;
           }
-
-      -- what stood there is gone
-      pub gone_acts : defaults_known session' ≡ defaults_known session → session'.failed ≡ session.failed → Acts delete s session t session' (Ok replies.Deleted)
-      gone_acts known fine =
-          turned_acts delete s t session session' stands writers remembers known fine replies.Deleted goes refl (looks_from-Leaves s t came.relays.leaves)

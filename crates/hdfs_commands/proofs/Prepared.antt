@@ -5,13 +5,14 @@ use Rattle.hdfs_cluster.specs.declared.errors.HdfsError.{HdfsError}
 use Rattle.hdfs_cluster.specs.declared.messages.ServerDefaults.{ServerDefaults}
 use Rattle.hdfs_cluster.specs.Picture.{Picture}
 use Rattle.hdfs_model.specs.Sessions.{defaults_of as cluster_defaults}
-use Rattle.hdfs_cluster.specs.Shown.{Shown}
+use Rattle.hdfs_cluster.specs.Shown.{Later, Shown}
 use Rattle.hdfs_namenode.specs.Asked.{ReachesAll, SameService}
 use Rattle.hdfs_namenode.specs.Clients.{defaults_of, name_of, proxy_of}
 use Rattle.hdfs_namenode.specs.Relaying.{CameCached}
 use Rattle.hdfs_namenode.specs.declared.protocol.NamenodeProtocol.{NamenodeProtocol}
 use Rattle.hdfs_namenode.proofs.Services.{reaches_later}
 use Rattle.hdfs_file_reader.specs.Transferring.{AreDefaultsOf}
+use Rattle.hdfs_commands.specs.Encrypted.{OnlyAsked}
 use Rattle.hdfs_commands.specs.Meeting.{KnowsDefaults}
 use Rattle.hdfs_commands.specs.Preparing.{AreTold, Prepares}
 use Rattle.hdfs_commands.specs.Session.{defaults_known}
@@ -19,9 +20,13 @@ use Rattle.hdfs_commands.specs.declared.session.Session.{Session}
 use Rattle.hdfs_file_reader.proofs.Transfers.{defaults_told, leaves_by}
 
 -- it asks all namenodes still
-pub reaches_prepared : (s m : Shown) (session session' : Session) → Prepares s session m session' → ReachesAll (proxy_of session.namenode) s → ReachesAll (proxy_of session'.namenode) m
-reaches_prepared s m session session' prepares reaches =
+pub reaches_prepared : {s m : Shown} {session session' : Session} → Prepares s session m session' → ReachesAll (proxy_of session.namenode) s → ReachesAll (proxy_of session'.namenode) m
+reaches_prepared {s} {m} {session} {session'} prepares reaches =
     reaches_later (proxy_of session.namenode) (proxy_of session'.namenode) s m prepares.remembers.service prepares.looks.later reaches
+
+-- also once it has asked for a file
+pub reaches_asked : {m t : Shown} {session session' : Session} → OnlyAsked session session' → Later m t → ReachesAll (proxy_of session.namenode) m → ReachesAll (proxy_of session'.namenode) t
+reaches_asked {m} {t} {session} {session'} asked later reaches = reaches_later (proxy_of session.namenode) (proxy_of session'.namenode) m t asked.remembers.service later reaches
 
 -- what is known of the cluster's defaults is known of its picture's, and the other way round
 pub told_known : (s : Shown) (p : Picture) (known : Option ServerDefaults) → s.picture ≡ Some p → KnowsDefaults s known → AreDefaultsOf p known

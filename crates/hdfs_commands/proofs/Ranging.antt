@@ -26,7 +26,7 @@ use Rattle.hdfs_file_reader.specs.Files.{EndsBehind, LacksRange, LosesByte, Only
 use Rattle.hdfs_file_reader.specs.Looking.{FilesStay, IsClosed, OnlyLooks}
 use Rattle.hdfs_file_reader.specs.Transferring.{LacksTransfer, MayMove, SameButKnown, Unsupported}
 use Rattle.hdfs_file_reader.proofs.Looking.{files_read}
-use Rattle.hdfs_commands.specs.Meeting.{AsksOn, KnowsDefaults, KnowsWorld, Meets}
+use Rattle.hdfs_commands.specs.Meeting.{KnowsDefaults, KnowsWorld, Meets}
 use Rattle.hdfs_commands.proofs.Agreeing.{is_told}
 use Rattle.hdfs_commands.proofs.Causing.{agrees_read, blocks_cause, moves_cause, not_early, opens_plain, range_cause, tells_from-FailsAt}
 use Rattle.hdfs_commands.proofs.Owing.{ask_not_owed, reader_not_owed}
@@ -34,6 +34,13 @@ use Rattle.hdfs_commands.proofs.Prepared.{known_told, told_known}
 use Rattle.hdfs_commands.proofs.Refusing.{ask_tells, rose_cause}
 use Rattle.hdfs_commands.proofs.Stepping.{is_closed}
 use Rattle.hdfs_namenode.specs.Views.{Whole}
+
+-- It is the same client but for the defaults that it knows; and where nobody writes the file at a path, and what it knew was the cluster's,
+-- what it knows is so.
+pub record AsksOn (path : List ℕ) (old : Shown) (namenode : NamenodeProtocol) (new : Shown) (namenode' : NamenodeProtocol) : Type 0 where
+  pub same : SameButKnown namenode namenode'
+  pub told : (p : Picture) → old.picture ≡ Some p → IsClosed p path → KnowsDefaults old (known_of namenode)
+      → KnowsDefaults new (known_of namenode')
 
 -- what is known stays known
 same_known_trans : (a b c : NamenodeProtocol) → SameClient a b → SameButKnown b c → SameButKnown a c

@@ -1,5 +1,5 @@
 -- Errors that stand for what was answered, and those that don't.
-use Rattle.std.proofs.Common.{◌≡◌, ◌⊎◌, inl, inr, ℕ, ◌+◌, ◌<◌, List, Option, Some, None, Result, Ok, Err, refl, sym, subst, true, false}
+use Rattle.std.proofs.Common.{◌≡◌, inl, inr, ℕ, ◌+◌, ◌<◌, List, Option, Some, None, Result, Ok, Err, refl, sym, subst, true}
 use Rattle.std.specs.Prelude.{IfErr, IfSome, IsSomeAnd}
 use Rattle.hdfs_cluster.specs.declared.asks.Answer.{Answer}
 use Rattle.hdfs_cluster.specs.declared.asks.Ask.{Ask}
@@ -9,7 +9,6 @@ use Rattle.hdfs_cluster.specs.declared.errors.HdfsError.{HdfsError}
 use Rattle.hdfs_cluster.specs.declared.errors.HdfsError.TheVariants as errors
 use Rattle.hdfs_cluster.specs.declared.messages.ServerDefaults.{ServerDefaults}
 use Rattle.hdfs_cluster.specs.Failures.{IsOfAsk}
-use Rattle.hdfs_cluster.specs.Limits.{are_defaults}
 use Rattle.hdfs_cluster.specs.Shown.{Shown}
 use Rattle.hdfs_file_reader.specs.Files.{LacksRange}
 use Rattle.hdfs_file_reader.specs.Looking.{AnswersLookUp, TellsLookUp}
@@ -21,9 +20,7 @@ use Rattle.hdfs_model.specs.declared.commands.Command.TheVariants as commands
 use Rattle.hdfs_model.specs.declared.commands.Reply.{Reply}
 use Rattle.hdfs_namenode.specs.Clients.{KeepsAnswered, defaults_of, proxy_of}
 use Rattle.hdfs_namenode.specs.declared.protocol.NamenodeProtocol.{NamenodeProtocol}
-use Rattle.hdfs_commands.specs.Preparing.{LacksDefaults}
-use Rattle.hdfs_commands.specs.Refusing.{IsAnsweredSo, IsShort, SomeDefaults, WantsEncryption}
-use Rattle.hdfs_commands.specs.declared.session.Session.{Session}
+use Rattle.hdfs_commands.specs.Refusing.{IsAnsweredSo, IsShort, WantsEncryption}
 use Rattle.hdfs_namenode.specs.Views.{view_of}
 
 module _ (may_answer : Ask → Answer → Type 0) (client path : List ℕ) (command : Command) where
@@ -33,25 +30,6 @@ module _ (may_answer : Ask → Answer → Type 0) (client path : List ℕ) (comm
   asked_so (errors.FileNotFound name) of = absurd of
   asked_so (errors.UnsupportedFeature feature) of = absurd of
   asked_so error of = tt
-
-  -- why there are no defaults
-  pub lacks_so : (old new : Shown) (session : Session) (error : HdfsError) → LacksDefaults old session error new
-      → (error ≡ errors.InvalidArgument args.Defaults → SomeDefaults may_answer (λ defaults. are_defaults defaults ≡ false))
-      → IsAnsweredSo may_answer client path command error
-  lacks_so old new session error (inl vain) refused = asked_so error vain.0.0
-  lacks_so old new session error (inr out) refused = subst (IsAnsweredSo may_answer client path command) (sym out.0) (refused out.0)
-
-  -- a command's path that is none stands for no answer
-  pub target_so : (error : HdfsError) → (error ≡ errors.NoMemory) ⊎ ((name : List ℕ) × (error ≡ errors.InvalidPath name))
-      → IsAnsweredSo may_answer client path command error
-  target_so error (inl none) = subst (IsAnsweredSo may_answer client path command) (sym none) tt
-  target_so error (inr bad) = subst (IsAnsweredSo may_answer client path command) (sym bad.1) tt
-
--- the command changes names alone
-abbrev pub ChangesNames : Command → Type 0
-ChangesNames (commands.Mkdirs name permission parents) = Unit {0}
-ChangesNames (commands.Delete name recursive) = Unit {0}
-ChangesNames command = ⊥
 
 -- a command that sends bytes to an open file stands for none
 pub sent_so : (may_answer : Ask → Answer → Type 0) (client path : List ℕ) (command : Command) → Sends command → (error : HdfsError) → CanEnd command error
@@ -69,23 +47,6 @@ sent_so may_answer client path (commands.Close name) sends (errors.FileNotFound 
 sent_so may_answer client path (commands.Close name) sends (errors.UnsupportedFeature features.Encryption) can = tt
 sent_so may_answer client path (commands.Close name) sends error can = tt
 sent_so may_answer client path command sends error can = absurd sends
-
--- a command that changes names alone stands for none
-pub named_so : (may_answer : Ask → Answer → Type 0) (client path : List ℕ) (command : Command) → ChangesNames command → (error : HdfsError) → CanEnd command error
-    → IsAnsweredSo may_answer client path command error
-named_so may_answer client path (commands.Mkdirs name permission parents) is (errors.InvalidArgument args.Defaults) can = absurd can
-named_so may_answer client path (commands.Mkdirs name permission parents) is (errors.InvalidArgument (args.Range offset len length)) can = absurd can.0
-named_so may_answer client path (commands.Mkdirs name permission parents) is (errors.InvalidArgument (args.TooMany limit)) can = absurd can
-named_so may_answer client path (commands.Mkdirs name permission parents) is (errors.FileNotFound missing) can = absurd can.1
-named_so may_answer client path (commands.Mkdirs name permission parents) is (errors.UnsupportedFeature features.Encryption) can = absurd can
-named_so may_answer client path (commands.Mkdirs name permission parents) is error can = tt
-named_so may_answer client path (commands.Delete name recursive) is (errors.InvalidArgument args.Defaults) can = absurd can
-named_so may_answer client path (commands.Delete name recursive) is (errors.InvalidArgument (args.Range offset len length)) can = absurd can.0
-named_so may_answer client path (commands.Delete name recursive) is (errors.InvalidArgument (args.TooMany limit)) can = absurd can
-named_so may_answer client path (commands.Delete name recursive) is (errors.FileNotFound missing) can = absurd can.1
-named_so may_answer client path (commands.Delete name recursive) is (errors.UnsupportedFeature features.Encryption) can = absurd can
-named_so may_answer client path (commands.Delete name recursive) is error can = tt
-named_so may_answer client path command is error can = absurd is
 
 module _ (may_answer : Ask → Answer → Type 0) (client path name : List ℕ) (offset len : ℕ) where
   -- a look-up that gives no blocks
@@ -130,15 +91,3 @@ refused_there may_answer client client' path path' command command' (Err error) 
     subst (λ (n : List ℕ). IsAnsweredSo may_answer n path' command' error) named
     (subst (λ (p : List ℕ). IsAnsweredSo may_answer client p command' error) at
     (subst (λ (c : Command). IsAnsweredSo may_answer client path c error) is refused))
-
--- and of one that sends bytes
-pub sent_there : (may_answer : Ask → Answer → Type 0) (client path : List ℕ) (command : Command) → Sends command → (old new : Shown) (result : Result Reply HdfsError)
-    → IfErr result (Tells command old new) → IfErr result (IsAnsweredSo may_answer client path command)
-sent_there may_answer client path command sends old new (Ok reply) tells = tt
-sent_there may_answer client path command sends old new (Err error) tells = sent_so may_answer client path command sends error tells.0
-
--- and of one that changes names
-pub named_there : (may_answer : Ask → Answer → Type 0) (client path : List ℕ) (command : Command) → ChangesNames command → (old new : Shown) (result : Result Reply HdfsError)
-    → IfErr result (Tells command old new) → IfErr result (IsAnsweredSo may_answer client path command)
-named_there may_answer client path command is old new (Ok reply) tells = tt
-named_there may_answer client path command is old new (Err error) tells = named_so may_answer client path command is error tells.0

@@ -1,26 +1,46 @@
--- How what a command does to a session and its cluster is put together.
-use Rattle.std.proofs.Common.{◌≡◌, ◌≢◌, ℕ, suc, true, List, Some, Ok, Err, is_some, ◌∙◌, ap, subst}
-use Rattle.hdfs_model.specs.declared.commands.Command.{Command}
-use Rattle.hdfs_model.specs.declared.commands.Reply.{Reply}
+-- What the call of the writer of an open file leaves, and what a command that sends bytes comes to that is done.
+use Rattle.std.proofs.Common.{◌≡◌, ◌≢◌, ℕ, Bool, true, false, cond, List, Option, Some, Result, Ok, is_some, sym, ◌∙◌, ap, subst}
+use Rattle.std.specs.Prelude.{IfErr, IfSome, OnErr, OnOk}
+use Rattle.std.specs.Str.{bytes_eq}
+use Rattle.std.proofs.lemmas.Bool.{false≢true}
+use Rattle.std.proofs.lemmas.Result.{IfErr-weaker}
+use Rattle.hdfs_cluster.specs.declared.asks.Answer.{Answer}
+use Rattle.hdfs_cluster.specs.declared.asks.Ask.{Ask}
 use Rattle.hdfs_cluster.specs.declared.errors.HdfsError.{HdfsError}
-use Rattle.hdfs_cluster.specs.declared.errors.HdfsError.TheVariants as errors
-use Rattle.hdfs_cluster.specs.declared.errors.TransferFault.TheVariants as transfer
-use Rattle.hdfs_cluster.specs.Failures.{NodesFailTimes}
-use Rattle.hdfs_model.specs.Anywhere.{IsReply}
-use Rattle.hdfs_model.specs.Causes.{Tells, IsEarly, TouchesNothing, CommandLost, Cause}
 use Rattle.hdfs_cluster.specs.Files.{State}
-use Rattle.hdfs_cluster.specs.Picture.{Picture}
 use Rattle.hdfs_cluster.specs.Fitting.{Fits}
-use Rattle.hdfs_model.specs.Sessions.{SameOpened, IsLimited, spared}
-use Rattle.hdfs_cluster.specs.Shown.{Shown, Later, SameReads, SameNodes}
+use Rattle.hdfs_cluster.specs.Picture.{Picture}
+use Rattle.hdfs_cluster.specs.Shown.{Shown, SameNodes}
+use Rattle.hdfs_cluster.specs.Sound.{IsSound}
+use Rattle.hdfs_cluster.specs.Stores.{AgreesAt}
+use Rattle.hdfs_model.specs.declared.commands.Command.{Command}
+use Rattle.hdfs_model.specs.declared.commands.Command.TheVariants as commands
+use Rattle.hdfs_model.specs.declared.commands.Reply.{Reply}
+use Rattle.hdfs_model.specs.Anywhere.{IsReply}
+use Rattle.hdfs_model.specs.Causes.{Sends, TouchesNothing}
+use Rattle.hdfs_model.specs.Owing.{IsMisplaced, IsNotOwed}
+use Rattle.hdfs_model.specs.Sessions.{SameOpened, IsLimited}
 use Rattle.hdfs_model.specs.Steps.{Done, step, is_opened, target_of}
-use Rattle.hdfs_cluster.specs.Stores.{AgreesAt, AgreesBut}
-use Rattle.hdfs_model.proofs.Completing.{cause_completes}
+use Rattle.hdfs_names.specs.Paths.{is_path}
+use Rattle.hdfs_namenode.specs.Clients.{SameClient, client_name, name_of}
+use Rattle.hdfs_file_writer.specs.Writers as files
 use Rattle.hdfs_file_writer.specs.declared.file_writer.FileWriter.{FileWriter}
+use Rattle.hdfs_file_writer.proofs.Others.{stands_beside}
 use Rattle.hdfs_commands.specs.Acting.{world_at, IsReady, Acts}
-use Rattle.hdfs_commands.specs.Session.{opened_of, writer_of, Stands, OnlyOwnLinks, CarriesFile, Carried, CarriesOpen, Tallied}
+use Rattle.hdfs_commands.specs.Asking.{AreAnswered}
+use Rattle.hdfs_commands.specs.Executing.{Executes}
+use Rattle.hdfs_commands.specs.Preparing.{Remembers}
+use Rattle.hdfs_commands.specs.Session.{has_failed, opened_of, settings_of, writer_of, Stands, CarriesFile, Carried}
+use Rattle.hdfs_commands.specs.Whole.{KeepsBlocksWhole, KeepsWhole}
 use Rattle.hdfs_commands.specs.declared.session.Session.{Session}
 use Rattle.hdfs_commands.proofs.Agreeing.{agrees_told, is_told}
+use Rattle.hdfs_commands.proofs.Answered.{answered_put, keeps_same}
+use Rattle.hdfs_commands.proofs.Beside.{OneCall, link_in, links_of_one, stands_after}
+use Rattle.hdfs_commands.proofs.Early.{owed_plain}
+use Rattle.hdfs_commands.proofs.OneFile.{not_same, same_test}
+use Rattle.hdfs_commands.proofs.Refused.{sent_so}
+use Rattle.hdfs_commands.proofs.Sized.{sized_still}
+use Rattle.hdfs_commands.proofs.Tallying.{tallied_call}
 
 -- What a command that is done comes to, over a state.
 pub record Comes (command : Command) (old : Shown) (session : Session) (new : Shown) (session' : Session) (reply : Reply) (state : State) : Type 0 where
@@ -52,51 +72,96 @@ open_at old session state command path writer ready here =
       opened = ready.ready.opened path ∙ ap is_some here;
     }
 
-module _ (command : Command) (old new : Shown) (session session' : Session) (later : Later old new) (reads : SameReads old new)
-    (idle : TouchesNothing command → SameNodes old new) (links : OnlyOwnLinks old session new session') (stands : Stands new session')
-    (writers : (r : List ℕ) → r ≢ target_of (world_at session old) command → writer_of session' r ≡ writer_of session r)
-    (tallied : (start : Shown) → Tallied start old session → Tallied start new session') where
-  -- a command that is done
-  pub acts_done : (reply : Reply) → IsReply command reply → ((state : State) → IsReady old session state command → Comes command old session new session' reply state) → Acts command old session new session' (Ok reply)
-  acts_done reply replies comes = record {
-    anywhere = record { later = later; reads = reads; replies = replies; tells = tt; refused = tt; idle = idle };
-    links = links;
-    stands = stands;
-    tallied = tallied;
-    limit = tt;
-    writers = writers;
-    applied = λ state ready.
-        (let c = comes state ready in
-        record { ok = (c.next, c.done, c.limited, c.fits, c.opened); err = tt; complete = tt });
-    world = λ state ready. (comes state ready).world;
-    carried = λ state ready next is.
-        (let c = comes state ready in
-        let same : c.next ≡ next = cc (c.done, is) in
-        subst (λ (s : State). Carried new session' s) same c.carried);
-    spares = λ state ready. tt;
-  }
+-- What is known of the call of the writer of an open file, of which this is left behind it.
+pub record Called (old new : Shown) (session : Session) (writer : FileWriter) (now : Option FileWriter) (session' : Session) : Type 0 where
+  pub here : writer_of session (files.path_of writer) ≡ Some writer
+  pub writers : (other : List ℕ) → writer_of session' other ≡ cond (bytes_eq (files.path_of writer) other) now (writer_of session other)
+  pub before : Stands old session
+  pub sound : (p : Picture) → old.picture ≡ Some p → IsSound p
+  pub named : is_path (files.path_of writer) ≡ true
+  pub settings : settings_of session' ≡ settings_of session
+  pub namenode : SameClient session.namenode session'.namenode
+  pub own : files.OnlyOwnLink old (files.link_of writer) new (link_in now)
+  pub left : IfSome now (λ w. files.Stands new w × files.Keeps writer w)
 
-  -- a command that fails
-  pub acts_failed : (error : HdfsError) → Tells command old new error → (IsEarly command error → SameNodes old new)
-      → ((start : Shown) (n : ℕ) → error ≡ errors.DataTransferError (transfer.RebuildLimit n) → Tallied start old session → NodesFailTimes (suc n) start new)
-      → ((path : List ℕ) (byte : ℕ) → CommandLost old.counts new path command byte → ⊥)
-      → ((state : State) → IsReady old session state command → Cause (world_at session old) state command old new error × AgreesBut (spared (world_at session old) state command error) new.picture state.files)
-      → ((state : State) → IsReady old session state command → CarriesOpen new session' state)
-      → Acts command old session new session' (Err error)
-  acts_failed error tells refused limit found over others = record {
-    anywhere = record { later = later; reads = reads; replies = tt; tells = tells; refused = refused; idle = idle };
-    links = links;
-    stands = stands;
-    tallied = tallied;
-    limit = limit;
-    writers = writers;
-    applied = λ state ready. record {
-      ok = tt;
-      err = over state ready;
-      complete = λ limited none.
-          cause_completes (world_at session old) state command old new later.namenodes limited none (found (target_of (world_at session old) command)) error (over state ready).0;
-    };
-    world = λ state ready. tt;
-    carried = λ state ready. tt;
-    spares = others;
-  }
+-- what holds of what there is
+pub some_of : (P : FileWriter → Type 0) (o : Option FileWriter) → IfSome o P → (w : FileWriter) → o ≡ Some w → P w
+some_of P o h w is = subst (λ (x : Option FileWriter). IfSome x P) is h
+
+-- a command that sends bytes is misplaced only where its path isn't open
+shut : (command : Command) → Sends command → (opened : List ℕ → Bool) (path : List ℕ) → IsMisplaced opened path command → opened path ≡ false
+shut (commands.Write name bytes) sends opened path is = is
+shut (commands.Close name) sends opened path is = is
+shut command sends opened path is = absurd sends
+
+module _ {old new : Shown} {session session' : Session} {writer : FileWriter} {now : Option FileWriter} (c : Called old new session writer now session') where
+  -- it is one call of one writer
+  pub call_of : OneCall old session (files.path_of writer) (Some writer) now new session'
+  call_of = record { here = c.here; writers = c.writers; own = c.own }
+
+  -- the session remembers what it is run with
+  remembers_of : Remembers session session'
+  remembers_of = record { settings = c.settings; name = c.namenode.name; service = c.namenode.service; known = λ defaults is. c.namenode.defaults ∙ is }
+
+  -- no other writer is touched
+  pub elsewhere : (r : List ℕ) → r ≢ files.path_of writer → writer_of session' r ≡ writer_of session r
+  elsewhere r apart = c.writers r ∙ ap (λ (b : Bool). cond b now (writer_of session r)) (not_same (files.path_of writer) r apart)
+
+  -- what writes the file at the path behind the call
+  pub behind : writer_of session' (files.path_of writer) ≡ now
+  behind = c.writers (files.path_of writer) ∙ ap (λ (b : Bool). cond b now (writer_of session (files.path_of writer))) (same_test (files.path_of writer))
+
+  -- the session stands
+  pub called_stands : (session'.failed ≡ false → (session.failed ≡ false) × IfSome now (λ w. files.has_failed w ≡ false)) → Stands new session'
+  called_stands fine =
+      stands_after old new session session' (files.path_of writer) (Some writer) now call_of c.before (stands_beside old new) remembers_of
+      (λ w is. (let left = some_of (λ x. files.Stands new x × files.Keeps writer x) now c.left w is in (
+        left.0,
+        left.1.path,
+        sized_still session session' remembers_of writer w left.1.sizes (c.before.sized (files.path_of writer) writer c.here),
+      )))
+      (λ not_failed. (let all = fine not_failed in (all.0, some_of (λ x. files.has_failed x ≡ false) now all.1)))
+
+  module _ (may_answer : Ask → Answer → Type 0) (command : Command) (sends : Sends command) (called : target_of (world_at session old) command ≡ files.path_of writer) (answered : AreAnswered may_answer session)
+      (kept : IfSome now (files.IsAnswered may_answer (name_of session.namenode))) where
+    -- what a command that sends bytes comes to, by what it does and what it makes of blocks
+    pub executes : (result : Result Reply HdfsError) → OnErr result (has_failed session' ≡ true) × OnOk result (has_failed session' ≡ false) → IfErr result IsNotOwed
+        → Acts command old session new session' result → KeepsBlocksWhole command old session new session' result → Executes may_answer command old session new session' result
+    executes result fails owed acts whole = record {
+      acts = acts;
+      whole = whole;
+      owed =
+          owed_plain (world_at session old) (opened_of session) command result (ap is_path called ∙ c.named)
+          (λ out. false≢true (sym (shut command sends (opened_of session) (target_of (world_at session old) command) out) ∙ ap (opened_of session) called ∙ ap is_some c.here)) owed;
+      refused = IfErr-weaker result _ _ (λ e tells. sent_so may_answer (client_name session.settings.client) (target_of (world_at session old) command) command sends e tells.0) acts.anywhere.tells;
+      settings = c.settings;
+      fails = fails;
+      answered =
+          answered_put session session' (files.path_of writer) now c.namenode.name c.writers kept (keeps_same may_answer session.namenode session'.namenode c.namenode answered.defaults) answered;
+    }
+
+    -- one that is done
+    pub sent_done : session.failed ≡ false → session'.failed ≡ false → IfSome now (λ w. files.has_failed w ≡ false) → IfSome now (files.Tallies old writer new)
+        → (TouchesNothing command → SameNodes old new) → (reply : Reply) → IsReply command reply
+        → ((state : State) → IsReady old session state command → Comes command old session new session' reply state × KeepsWhole command old session new session' (Ok reply))
+        → Executes may_answer command old session new session' (Ok reply)
+    sent_done fine fine' well tallies idle reply replies comes =
+        executes (Ok reply) (tt, fine') tt
+        (record {
+          anywhere = record { later = c.own.later; reads = c.own.reads; replies = replies; tells = tt; refused = tt; idle = idle };
+          links = links_of_one old new session session' (files.path_of writer) (Some writer) now call_of;
+          stands = called_stands (λ not_failed. (fine, well));
+          tallied = tallied_call call_of (λ start tally w is. some_of (files.Tallies old writer new) now tallies w is start (tally.each (files.path_of writer) writer c.here));
+          limit = tt;
+          writers = λ r apart. elsewhere r (λ same. apart (same ∙ sym called));
+          applied = λ state ready.
+              (let one = (comes state ready).0 in
+              record { ok = (one.next, one.done, one.limited, one.fits, one.opened); err = tt; complete = tt });
+          world = λ state ready. (comes state ready).0.world;
+          carried = λ state ready next is.
+              (let one = (comes state ready).0 in
+              let same : one.next ≡ next = cc (one.done, is) in
+              subst (λ (s : State). Carried new session' s) same one.carried);
+          spares = λ state ready. tt;
+        })
+        (λ state ready. (comes state ready).1)

@@ -67,10 +67,12 @@ module _ (session session' : Session) (remembers : Remembers session session') w
     encrypted = ap (λ (s : WriteSizes). s.encrypted) same ∙ sized.encrypted;
   }
 
-  -- it gives a file the sizes that it gave it
-  pub sizes_still : (d : ServerDefaults) (replication block_size : ℕ) → sizes_by session' d replication block_size ≡ sizes_by session d replication block_size
-  sizes_still d replication block_size =
-      ap (λ (s : Settings). record (sizes_by session d replication block_size) { rebuilding = rebuilding_by s; setup_limit = s.setup_limit }) remembers.settings
+  -- it gives a file the sizes that it gave it, also where these were told by others that are the same
+  pub sizes_told : (d : ServerDefaults) {replication block_size r k : ℕ} {sizes : WriteSizes} → sizes ≡ sizes_by session' d r k → r ≡ replication → k ≡ block_size
+      → sizes ≡ sizes_by session d replication block_size
+  sizes_told d {replication} {block_size} {r} {k} is one two =
+      is ∙ ap (λ (x : ℕ). sizes_by session' d x k) one ∙ ap (λ (x : ℕ). sizes_by session' d replication x) two
+      ∙ ap (λ (s : Settings). record (sizes_by session d replication block_size) { rebuilding = rebuilding_by s; setup_limit = s.setup_limit }) remembers.settings
 
   -- so is a new one, which was given them
   pub sized_by : (d : ServerDefaults) (writer : FileWriter) (replication block_size : ℕ)

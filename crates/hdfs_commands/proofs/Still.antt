@@ -1,21 +1,17 @@
 -- A session stands and carries its files over a cluster whose write links and files are the same.
-use Rattle.std.proofs.Common.{◌≡◌, inl, inr, ⊎_elim, ℕ, List, Some, Result, Ok, Err, IfSome, sym, ◌∙◌, ap, subst}
-use Rattle.hdfs_cluster.specs.declared.errors.HdfsError.{HdfsError}
+use Rattle.std.proofs.Common.{◌≡◌, ℕ, List, Some, IfSome, sym, ◌∙◌, ap, subst}
 use Rattle.hdfs_cluster.specs.declared.messages.ServerDefaults.{ServerDefaults}
 use Rattle.hdfs_cluster.specs.Files.{State}
 use Rattle.hdfs_cluster.specs.Picture.{Picture, SameFiles}
 use Rattle.hdfs_model.specs.Sessions.{defaults_of}
 use Rattle.hdfs_cluster.specs.Shown.{Shown, SameWrites}
-use Rattle.hdfs_namenode.specs.Clients.{proxy_of}
-use Rattle.hdfs_namenode.proofs.Services.{reaches_same, same_service_refl}
 use Rattle.hdfs_file_writer.proofs.Beside.{still_stands}
 use Rattle.hdfs_file_writer.specs.Tails.{Tail, FileCarries}
 use Rattle.hdfs_file_writer.specs.Writers as files
 use Rattle.hdfs_file_writer.specs.declared.file_writer.FileWriter.{FileWriter}
 use Rattle.hdfs_file_writer.proofs.Others.{tail_stays}
-use Rattle.hdfs_commands.specs.Session.{Stands, HasLink, OnlyOwnLinks, CarriesFile, Carried, after, defaults_known}
+use Rattle.hdfs_commands.specs.Session.{CarriesFile, Carried, defaults_known}
 use Rattle.hdfs_commands.specs.declared.session.Session.{Session}
-use Rattle.hdfs_commands.proofs.Early.{failed_stands}
 
 -- The writer of a file stands still where its link stayed.
 pub writer_stands : (a b : Shown) (w : FileWriter) → ((link : ℕ) → files.link_of w ≡ Some link → b.writes link ≡ a.writes link) → files.Stands a w → files.Stands b w
@@ -39,37 +35,6 @@ writer_stands a b w stays s = record {
   apart = s.apart;
   done = s.done;
 }
-
--- So does a session whose links stayed.
-pub session_stands : (a b : Shown) (s : Session) → b.namenodes ≡ a.namenodes → ((link : ℕ) → HasLink s link → b.writes link ≡ a.writes link) → Stands a s → Stands b s
-session_stands a b s count stays h = record {
-  limited = h.limited;
-  each = λ path writer is.
-      let e = h.each path writer is in
-      (writer_stands a b writer (λ link has. stays link (path, writer, is, has)) e.0, e.1);
-  fine = h.fine;
-  apart = h.apart;
-  reaches = reaches_same (proxy_of s.namenode) (proxy_of s.namenode) a b (same_service_refl (proxy_of s.namenode)) count h.reaches;
-  name = h.name;
-  sized = h.sized;
-}
-
--- It stands once it has failed, too.
-pub after_stands : {T : Type 0} (shown : Shown) (s : Session) (result : Result T HdfsError) → Stands shown s → Stands shown (after s result)
-after_stands shown s (Ok value) h = h
-after_stands shown s (Err error) h = failed_stands shown s h
-
--- A call that leaves the write links leaves those of the session.
-links_stay : (a b : Shown) (s : Session) → ((link : ℕ) → b.writes link ≡ a.writes link) → OnlyOwnLinks a s b s
-links_stay a b s same = record {
-  others = λ link is has. same link;
-  none = λ link h. ⊎_elim (λ none. inl (same link ∙ none)) (λ has. inr has) h;
-  fresh = λ link has. inl has;
-}
-
-pub after_links_stay : {T : Type 0} (a b : Shown) (s : Session) (result : Result T HdfsError) → ((link : ℕ) → b.writes link ≡ a.writes link) → OnlyOwnLinks a s b (after s result)
-after_links_stay a b s (Ok value) same = links_stay a b s same
-after_links_stay a b s (Err error) same = (let stay = links_stay a b s same in record { others = stay.others; none = stay.none; fresh = stay.fresh })
 
 -- What a writer carries it carries where the files and the write links are the same.
 module _ (p q : Picture) (same : SameFiles p q) (writes : SameWrites p q) where

@@ -77,11 +77,3 @@ IsNoLimit error = (n : ℕ) → error ≢ errors.DataTransferError (transfer.Reb
 -- a command that sends nothing doesn't end with that one
 pub sends_none : (command : Command) (old new : Shown) (error : HdfsError) → (Sends command → ⊥) → Tells command old new error → IsNoLimit error
 sends_none command old new error none tells n is = none (subst (λ (e : HdfsError). CanEnd command e) is tells.0)
-
--- one that uses the defaults sends nothing
-pub uses_none : (command : Command) → UsesDefaults command → Sends command → ⊥
-uses_none (commands.Create name options) uses sends = sends
-uses_none (commands.Append name) uses sends = sends
-uses_none (commands.Write name bytes) uses sends = uses
-uses_none (commands.Close name) uses sends = uses
-uses_none command uses sends = uses

@@ -1,7 +1,7 @@
 -- A command that asks namenodes alone, and changes no writer: what it has come to, over a told picture, is the session's act.
 use Rattle.std.proofs.Common.{◌≡◌, ℕ, true, List, Option, Some, is_some, Ok, refl, sym, ◌∙◌, ap, subst}
 use Rattle.std.specs.List.{list_any}
-use Rattle.std.specs.Prelude.{IfSome, Result, Err}
+use Rattle.std.specs.Prelude.{IfSome, Err}
 use Rattle.std.specs.Str.{bytes_eq}
 use Rattle.hdfs_model.specs.declared.commands.Command.{Command}
 use Rattle.hdfs_model.specs.declared.commands.Reply.{Reply}

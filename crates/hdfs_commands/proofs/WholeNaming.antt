@@ -1,9 +1,9 @@
 -- What a new directory and a deletion make of the blocks of files: they stay, or nothing stands there any more.
-use Rattle.std.proofs.Common.{◌≡◌, ◌≢◌, ◌⊎◌, inl, inr, ⊎_elim, ℕ, ◌<◌, Bool, true, false, cond, List, length, Option, Some, None, option_map, unwrap_or, Ok, Err, refl, sym, ◌∙◌, ap, subst, arith}
+use Rattle.std.proofs.Common.{◌≡◌, ◌⊎◌, inl, inr, ⊎_elim, ℕ, ◌<◌, Bool, true, false, cond, List, length, Option, Some, None, option_map, unwrap_or, Ok, Err, refl, sym, ◌∙◌, ap, subst, arith}
 use Rattle.std.proofs.lemmas.Bool.{false≢true}
 use Rattle.std.proofs.lemmas.Slice.Eq.{bytes_eq-Decides}
 use Rattle.std.specs.List.{list_any}
-use Rattle.std.specs.Prelude.{Contains, Result}
+use Rattle.std.specs.Prelude.{Result}
 use Rattle.std.specs.Str.{bytes_eq}
 use Rattle.hdfs_cluster.specs.declared.asks.Answer.{Answer}
 use Rattle.hdfs_cluster.specs.declared.asks.Answer.TheVariants as answers
@@ -14,12 +14,12 @@ use Rattle.hdfs_cluster.specs.declared.picture.Entry.TheVariants as entries
 use Rattle.hdfs_cluster.specs.declared.picture.FileEntry.{FileEntry}
 use Rattle.hdfs_cluster.specs.Effects.{blocks_at}
 use Rattle.hdfs_cluster.specs.Failures.{CallsRose}
-use Rattle.hdfs_cluster.specs.Files.{Kind, Directory, ClosedFile, OpenFile, is_file}
+use Rattle.hdfs_cluster.specs.Files.{ClosedFile, OpenFile, is_file}
 use Rattle.hdfs_cluster.specs.Names.{is_within}
-use Rattle.hdfs_cluster.specs.Picture.{Picture, SameFiles, entry_kind, kinds}
-use Rattle.hdfs_cluster.specs.Refusals.{Refusal, Exists, mkdirs_refusal}
+use Rattle.hdfs_cluster.specs.Picture.{Picture, entry_kind, kinds}
+use Rattle.hdfs_cluster.specs.Refusals.{Refusal, Exists}
 use Rattle.hdfs_cluster.specs.Shown.{Shown}
-use Rattle.hdfs_cluster.specs.Sound.{IsSound, IsFileAt}
+use Rattle.hdfs_cluster.specs.Sound.{IsSound}
 use Rattle.hdfs_cluster.proofs.NamesRepeating.{delete_repeats, make_repeats}
 use Rattle.hdfs_file_writer.specs.OnlyFiles.{KeepsBlocks}
 use Rattle.hdfs_file_writer.specs.declared.file_writer.FileWriter.{FileWriter}
@@ -29,11 +29,24 @@ use Rattle.hdfs_model.specs.declared.commands.Reply.{Reply}
 use Rattle.hdfs_model.specs.declared.commands.WriteOptions.{WriteOptions}
 use Rattle.hdfs_model.specs.Owing.{IsOpenWithin}
 use Rattle.hdfs_model.proofs.Removing.{stays}
-use Rattle.hdfs_names.specs.Paths.{root, ancestors}
+use Rattle.hdfs_names.specs.Paths.{root, absolute, ancestors, is_path}
 use Rattle.hdfs_namenode.specs.Asked.{as_answer}
 use Rattle.hdfs_namenode.specs.Relaying.{Came}
 use Rattle.hdfs_namenode.proofs.Relayed.{relayed_done}
-use Rattle.hdfs_commands.specs.Session.{opened_of, writer_of}
+use Rattle.hdfs_cluster.specs.declared.asks.Ask.{Ask}
+use Rattle.hdfs_cluster.specs.declared.errors.ArgFault.TheVariants as args
+use Rattle.hdfs_cluster.specs.declared.errors.HdfsError.TheVariants as errors
+use Rattle.hdfs_cluster.specs.Limits.{is_permission}
+use Rattle.hdfs_model.specs.declared.commands.Reply.TheVariants as replies
+use Rattle.hdfs_namenode.specs.Clients.{SameClient}
+use Rattle.hdfs_namenode.specs.declared.protocol.NamenodeProtocol.{NamenodeProtocol}
+use Rattle.hdfs_commands.specs.Acting.{world_at}
+use Rattle.hdfs_commands.specs.Asking.{AreAnswered}
+use Rattle.hdfs_commands.specs.Executing.{Executes}
+use Rattle.hdfs_commands.proofs.Early.{owed_other}
+use Rattle.hdfs_commands.proofs.Executed.{early_executes, turned_executes, unturned_executes}
+use Rattle.hdfs_commands.proofs.NamingActs.{bits_acts, delete_still, goes, gone_over, made_over, makes, mkdirs_still}
+use Rattle.hdfs_commands.specs.Session.{Stands, after, has_failed, opened_of, writer_of}
 use Rattle.hdfs_commands.specs.Whole.{AreFilled, AreWhole, KeepsBlocksWhole, KeepsWhole}
 use Rattle.hdfs_commands.specs.declared.session.Session.{Session}
 use Rattle.hdfs_commands.proofs.Agreeing.{is_told}
@@ -163,3 +176,41 @@ module _ (s t : Shown) (session session' : Session) (writers : (r : List ℕ) �
       naming_whole (commands.Delete name recursive) s t session session' was.0 to.0 was.1 to.1
       (λ r. ⊎_elim (λ same. inl (stays_files was.0 to.0 same.files r)) (λ goes. goes_or_stays path recursive was.0 to.0 (sound was.0 was.1) goes session shut r) (may_go path recursive was.0 to.0 done))
       writers (λ name' options same. cc same) result
+
+-- the reply to an ask, or its error
+abbrev pub replied : Reply → Result Bool HdfsError → Result Reply HdfsError
+replied reply (Ok done) = Ok reply
+replied reply (Err error) = Err error
+
+module _ {may_answer : Ask → Answer → Type 0} {s t : Shown} {session : Session} {namenode : NamenodeProtocol} {path name : List ℕ} (stands : Stands s session) (fine : has_failed session ≡ false)
+    (answered : AreAnswered may_answer session) (keeps : SameClient session.namenode namenode) (named : is_path path ≡ true) (called : absolute session.settings.home name ≡ path) where
+  -- what comes of a new directory
+  pub mkdirs_executes : {permission : ℕ} {parents : Bool} → opened_of session path ≡ false → is_permission permission ≡ true → (answer : Result Bool HdfsError)
+      → Came s (asks.Mkdirs path permission parents) (as_answer answers.Mkdirs answer) t
+      → Executes may_answer (commands.Mkdirs name permission parents) s session t (after (record session { namenode = namenode }) (replied replies.Made answer)) (replied replies.Made answer)
+  mkdirs_executes {permission} {parents} closed limited (Ok done) came =
+      turned_executes stands fine answered keeps named called (λ opened. cc (closed, opened)) (λ session' writers. mkdirs_whole s t session session' writers path name permission parents (Ok done) came)
+      replies.Made (makes s t session path name named called permission parents closed done limited came) refl came.relays.leaves
+  mkdirs_executes {permission} {parents} closed limited (Err error) came =
+      unturned_executes stands fine answered keeps named called (λ opened. cc (closed, opened)) (λ session' writers. mkdirs_whole s t session session' writers path name permission parents (Err error) came)
+      (mkdirs_still name permission parents) (asks.Mkdirs path permission parents) (made_over s t session path name named called permission parents closed) (make_repeats path permission parents) came
+
+  -- and of a deletion
+  pub delete_executes : {recursive : Bool} → ((p : Picture) → s.picture ≡ Some p → IsSound p) → ((path ≡ root) ⊎ IsOpenWithin (opened_of session) path → ⊥) → (answer : Result Bool HdfsError)
+      → Came s (asks.Delete path recursive) (as_answer answers.Delete answer) t
+      → Executes may_answer (commands.Delete name recursive) s session t (after (record session { namenode = namenode }) (replied replies.Deleted answer)) (replied replies.Deleted answer)
+  delete_executes {recursive} sound placed (Ok done) came =
+      turned_executes stands fine answered keeps named called placed (λ session' writers. delete_whole s t session session' writers path name recursive (Ok done) sound (λ within. placed (inr within)) came)
+      replies.Deleted (goes s t session path name named called recursive sound placed done came) refl came.relays.leaves
+  delete_executes {recursive} sound placed (Err error) came =
+      unturned_executes stands fine answered keeps named called placed (λ session' writers. delete_whole s t session session' writers path name recursive (Err error) sound (λ within. placed (inr within)) came)
+      (delete_still name recursive) (asks.Delete path recursive) (gone_over s t session path name named called recursive sound placed) (delete_repeats path recursive) came
+
+-- permission bits that are out of their limits are refused before anything is asked
+pub bits_executes : {may_answer : Ask → Answer → Type 0} {s : Shown} {session : Session} {path name : List ℕ} {permission : ℕ} {parents : Bool} → Stands s session → AreAnswered may_answer session
+    → absolute session.settings.home name ≡ path → is_path path ≡ true → opened_of session path ≡ false → is_permission permission ≡ false
+    → Executes may_answer (commands.Mkdirs name permission parents) s session s (record session { failed = true }) (Err (errors.InvalidArgument args.Options))
+bits_executes {may_answer} {s} {session} {path} {name} {permission} {parents} stands answered called named closed out =
+    early_executes answered (bits_acts s session name permission parents stands out)
+    (owed_other (world_at session s) (opened_of session) (commands.Mkdirs name permission parents) (errors.InvalidArgument args.Options) (ap is_path called ∙ named)
+    (λ opened. cc (called, closed, opened)) (inl tt)) tt

@@ -4,14 +4,12 @@ use Rattle.std.proofs.lemmas.List.{get_or-append-add, length-append}
 use Rattle.std.specs.List.{list_any}
 use Rattle.std.specs.Prelude.{Contains, slice_index_or}
 use Rattle.std.specs.Str.{bytes_eq}
-use Rattle.hdfs_model.specs.declared.commands.WriteOptions.{WriteOptions}
 use Rattle.hdfs_cluster.specs.declared.messages.LocatedBlock.{LocatedBlock}
 use Rattle.hdfs_cluster.specs.declared.picture.BlockEntry.{BlockEntry}
 use Rattle.hdfs_cluster.specs.declared.picture.Entry.{Entry}
 use Rattle.hdfs_cluster.specs.declared.picture.Entry.TheVariants as entries
 use Rattle.hdfs_cluster.specs.declared.picture.FileEntry.{FileEntry}
 use Rattle.hdfs_cluster.specs.Effects.{Creates, Opens, blocks_at}
-use Rattle.hdfs_cluster.specs.Namenode.{MayBeDone}
 use Rattle.hdfs_names.specs.Paths.{ancestors}
 use Rattle.hdfs_cluster.specs.Picture.{Picture, SameFiles}
 use Rattle.hdfs_cluster.specs.Sound.{IsSound, IsFileAt}
@@ -22,10 +20,8 @@ use Rattle.hdfs_file_writer.specs.Writers.{tail_opened}
 use Rattle.hdfs_file_writer.proofs.Creating.{created_keeps}
 use Rattle.hdfs_file_writer.proofs.Placing.{at_id, at_path}
 use Rattle.hdfs_file_writer.proofs.WholeBlocks.{IsKept, before_last, none_between, size_kept, whole_kept}
-use Rattle.hdfs_commands.proofs.Begun.{opened_named, opened_only}
-use Rattle.hdfs_model.specs.Opening.{appending, creating}
-use Rattle.hdfs_commands.proofs.Opening.{made, may_be_made, may_be_reopened}
-use Rattle.hdfs_commands.proofs.WholeBeside.{StaysAt, stays_elsewhere, stays_named}
+use Rattle.hdfs_commands.proofs.Begun.{opened_named}
+use Rattle.hdfs_commands.proofs.WholeBeside.{StaysAt, stays_named}
 
 -- what stays over each of two calls stays over both
 pub stays_trans : (p q r : Picture) (path : List ℕ) → StaysAt p q path → StaysAt q r path → StaysAt p r path
@@ -142,19 +138,3 @@ module _ (p q : Picture) (sound : IsSound p) (path : List ℕ) (file : FileEntry
   reopened_short None opens size full = omega arith
   reopened_short (Some block) opens size full =
       reopened_last opens.0 opens.1 opens.2 block.b.num_bytes size opens.4 opens.5.is opens.5.same_length full
-
--- an ask for a new file leaves the others, whether it was done or not
-pub creating_spares : (path client : List ℕ) (options : WriteOptions) (replication block_size : ℕ) (p q : Picture) → IsSound p
-    → MayBeDone (creating path client options replication block_size) p q → (other : List ℕ) → other ≢ path → StaysAt p q other
-creating_spares path client options replication block_size p q sound may other apart = ⊎_elim
-    (λ same. stays_files p q same.files other)
-    (λ done. stays_created p q path (made path client options replication block_size) done.1 sound other apart)
-    (may_be_made path client options replication block_size p q may)
-
--- so does an ask for a file that is gone on with
-pub appending_spares : (path client : List ℕ) (flag : ℕ) (p q : Picture) → IsSound p
-    → MayBeDone (appending path client flag) p q → (other : List ℕ) → other ≢ path → StaysAt p q other
-appending_spares path client flag p q sound may other apart = ⊎_elim
-    (λ same. stays_files p q same.files other)
-    (λ done. stays_elsewhere p q path other sound (opened_only p q path done.1.file done.1.at done.0.block done.1.opens) apart)
-    (may_be_reopened path client flag p q may)

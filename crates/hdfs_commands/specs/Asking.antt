@@ -1,7 +1,7 @@
 -- What a session may ask a cluster for, command by command. It asks for nothing else, whatever comes of it, but that any namenode may always
 -- be asked for its state, and to be in step (`keeps_up`). It names no block and no file's id but those that it was answered, for this path.
 -- How often is not said.
-use Rattle.std.specs.Prelude.{◌≡◌, ℕ, ◌-◌, true, false, List, Option, Some}
+use Rattle.std.specs.Prelude.{◌≡◌, ℕ, true, false, List, Option, Some}
 use Rattle.hdfs_cluster.specs.declared.asks.Answer.{Answer}
 use Rattle.hdfs_cluster.specs.declared.asks.Ask.{Ask}
 use Rattle.hdfs_cluster.specs.declared.asks.Ask.TheVariants as asks

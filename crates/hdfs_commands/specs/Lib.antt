@@ -1,6 +1,7 @@
 pub mod Acting
 pub mod Asking
 pub mod Encrypted
+pub mod Executing
 pub mod Meeting
 pub mod Preparing
 pub mod Refusing

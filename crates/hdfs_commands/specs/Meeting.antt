@@ -3,15 +3,10 @@ use Rattle.std.specs.Prelude.{◌≡◌, ℕ, List, Option, Some, IfSome, true, 
 use Rattle.hdfs_cluster.specs.declared.messages.ServerDefaults.{ServerDefaults}
 use Rattle.hdfs_cluster.specs.Files.{State, Writing, Content}
 use Rattle.hdfs_names.specs.Paths.{is_path, absolute}
-use Rattle.hdfs_cluster.specs.Picture.{Picture}
 use Rattle.hdfs_model.specs.Steps.{World, is_opened}
 use Rattle.hdfs_model.specs.Sessions.{defaults_of}
 use Rattle.hdfs_cluster.specs.Shown.{Shown}
 use Rattle.hdfs_cluster.specs.Stores.{Agrees}
-use Rattle.hdfs_namenode.specs.Clients.{defaults_of as known_of}
-use Rattle.hdfs_namenode.specs.declared.protocol.NamenodeProtocol.{NamenodeProtocol}
-use Rattle.hdfs_file_reader.specs.Looking.{IsClosed}
-use Rattle.hdfs_file_reader.specs.Transferring.{SameButKnown}
 
 -- what is known of the defaults is the cluster's
 abbrev pub KnowsDefaults : Shown → Option ServerDefaults → Type 0
@@ -30,10 +25,3 @@ pub record Meets (world : World) (shown : Shown) (state : State) (name path : Li
   pub is_path : is_path path ≡ true
   pub not_open : is_opened state path ≡ false
   pub closed : (content : Content) → state.files path ≡ Some (Writing content) → ⊥
-
--- It is the same client but for the defaults that it knows; and where nobody writes the file at a path, and what it knew was the cluster's,
--- what it knows is so.
-pub record AsksOn (path : List ℕ) (old : Shown) (namenode : NamenodeProtocol) (new : Shown) (namenode' : NamenodeProtocol) : Type 0 where
-  pub same : SameButKnown namenode namenode'
-  pub told : (p : Picture) → old.picture ≡ Some p → IsClosed p path → KnowsDefaults old (known_of namenode)
-      → KnowsDefaults new (known_of namenode')

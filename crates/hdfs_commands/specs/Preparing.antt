@@ -9,6 +9,7 @@ use Rattle.hdfs_cluster.specs.Picture.{Picture, SameButActive, Told}
 use Rattle.hdfs_cluster.specs.Shown.{Shown}
 use Rattle.hdfs_namenode.specs.Asked.{SameService}
 use Rattle.hdfs_namenode.specs.Clients.{name_of, proxy_of}
+use Rattle.hdfs_file_writer.specs.Sizing as files
 use Rattle.hdfs_file_writer.specs.declared.sizes.WriteSizes.{WriteSizes}
 use Rattle.hdfs_file_reader.specs.Looking.{OnlyLooks}
 use Rattle.hdfs_file_reader.specs.Transferring.{AskedInVain}
@@ -49,14 +50,6 @@ LacksDefaults old session error new =
     ⊎ ((error ≡ errors.InvalidArgument args.Defaults) × (defaults : ServerDefaults) × (are_defaults defaults ≡ false)
     × AreTold old (defaults_known session) defaults)
 
--- with what a file is written that has this replication and block size
+-- with what a session writes a file that has this replication and block size
 abbrev pub sizes_by : Session → ServerDefaults → ℕ → ℕ → WriteSizes
-sizes_by session defaults replication block_size = record {
-  replication = replication;
-  block_size = block_size;
-  chunk = defaults.bytes_per_checksum;
-  packet_size = defaults.write_packet_size;
-  rebuilding = rebuilding_by (settings_of session);
-  setup_limit = (settings_of session).setup_limit;
-  encrypted = defaults.encrypt_data_transfer;
-}
+sizes_by session = files.sizes_by (rebuilding_by (settings_of session)) (settings_of session).setup_limit

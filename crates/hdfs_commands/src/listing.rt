@@ -1,11 +1,8 @@
 //! Listings, as a command of a session.
-ghost use Rattle.std.specs.Prelude.{◌≡◌, ◌⊎◌, IfErr, true, false};
-ghost use Rattle.hdfs_cluster.specs.declared.errors.HdfsError.TheVariants as errors;
+ghost use Rattle.std.specs.Prelude.{◌≡◌, true, false};
 ghost use Rattle.hdfs_model.specs.declared.commands.Command.TheVariants as commands;
 ghost use Rattle.hdfs_model.specs.Listings.{LetsList};
-ghost use Rattle.hdfs_model.specs.Owing.{IsNotOwed};
 ghost use Rattle.hdfs_names.specs.Paths.{absolute, is_path as is_path_text};
-ghost use Rattle.hdfs_namenode.specs.Clients.{name_of};
 
 use crate::session::Session;
 use hdfs_cluster::{Cluster, HdfsError};
@@ -14,11 +11,9 @@ use hdfs_model::Reply;
 use hdfs_wire::{List, Text};
 
 impl Session {
-    ghost use Rattle.hdfs_commands.specs.Acting.{Acts};
     ghost use Rattle.hdfs_commands.specs.Asking.{AreAnswered};
-    ghost use Rattle.hdfs_commands.specs.Refusing.{IsAnsweredSo};
+    ghost use Rattle.hdfs_commands.specs.Executing.{Executes};
     ghost use Rattle.hdfs_commands.specs.Session.{settings_of, has_failed, after, Stands};
-    ghost use Rattle.hdfs_commands.specs.Whole.{KeepsBlocksWhole};
 
     /// Lists what stands in the directory at a path, which a command calls `name`, and where `recursive` says so below it, if that is no more
     /// than `limit` entries.
@@ -35,19 +30,11 @@ impl Session {
         requires path { is_path_text path.now ≡ true }
         requires allowed { LetsList C.allows C.may_answer recursive path.now }
         requires answered { AreAnswered C.may_answer self.old }
-        ensures acts { absolute (settings_of self.old).home name.now ≡ path.now
-            → Acts (commands.List name.now recursive limit) (C.shown cluster.old) self.old (C.shown cluster.new)
-            (after self.new result) result }
-        ensures whole { absolute (settings_of self.old).home name.now ≡ path.now
-            → KeepsBlocksWhole (commands.List name.now recursive limit) (C.shown cluster.old) self.old
-            (C.shown cluster.new) self.new result }
-        ensures owed { IfErr result (λ error. IsNotOwed error ⊎ (error ≡ errors.InvalidPath name.now)) }
-        ensures keeps { (settings_of self.new ≡ settings_of self.old) × (has_failed self.new ≡ false) }
-        ensures answered { AreAnswered C.may_answer self.new }
-        ensures refused { IfErr result (IsAnsweredSo C.may_answer (name_of self.old.namenode) path.now
-            (commands.List name.now recursive limit)) }
+        ensures { absolute (settings_of self.old).home name.now ≡ path.now
+            → Executes C.may_answer (commands.List name.now recursive limit) (C.shown cluster.old) self.old
+            (C.shown cluster.new) (after self.new result) result }
     {
-        match list_path(
+        let entries = list_path(
             self.alloc,
             cluster,
             &mut self.namenode,
@@ -55,11 +42,9 @@ impl Session {
             path,
             recursive,
             limit,
-        ) {
-            Ok(entries) => Ok(Reply::Listed {
-                entries: List::from_vec(entries),
-            }),
-            Err(error) => Err(error),
-        }
+        )?;
+        Ok(Reply::Listed {
+            entries: List::from_vec(entries),
+        })
     }
 }

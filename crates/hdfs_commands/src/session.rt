@@ -1,10 +1,8 @@
 //! One session of commands.
-ghost use Rattle.std.specs.Prelude.{◌≡◌, ◌⊎◌, ◌<◌, Err, None, IfOk, IfErr, IsSome, OnOk, OnErr, true, false, List, ℕ};
-ghost use Rattle.hdfs_commands.specs.Acting.{Acts, world_at};
+ghost use Rattle.std.specs.Prelude.{◌≡◌, ◌⊎◌, ◌<◌, Err, None, IfOk, IfErr, IsSome, true, false, List, ℕ};
 ghost use Rattle.hdfs_cluster.specs.Files.{State};
 ghost use Rattle.hdfs_model.specs.Limits.{are_settings};
 ghost use Rattle.hdfs_names.specs.Paths.{is_path, absolute};
-ghost use Rattle.hdfs_model.specs.Owing.{Owed};
 ghost use Rattle.hdfs_cluster.specs.Shown.{Later, SameReads};
 ghost use Rattle.hdfs_model.specs.Steps.{path_of};
 ghost use Rattle.hdfs_cluster.specs.declared.errors.HdfsError.TheVariants as errors;
@@ -36,9 +34,8 @@ pub struct Session {
 
 impl Session {
     ghost use Rattle.hdfs_commands.specs.Asking.{AreAnswered, LetsApply, LetsPlaced};
-    ghost use Rattle.hdfs_commands.specs.Refusing.{RefusedSo};
-    ghost use Rattle.hdfs_commands.specs.Session.{settings_of, has_failed, opened_of, writer_of, defaults_known, after, CarriesOpen, LeavesFiles, HasLink, Stands, IsNotBegun};
-    ghost use Rattle.hdfs_commands.specs.Whole.{KeepsBlocksWhole};
+    ghost use Rattle.hdfs_commands.specs.Executing.{Executes};
+    ghost use Rattle.hdfs_commands.specs.Session.{settings_of, has_failed, writer_of, defaults_known, after, CarriesOpen, LeavesFiles, HasLink, Stands, IsNotBegun};
 
     /// A session over a cluster, which it doesn't ask yet.
     ///
@@ -94,14 +91,8 @@ impl Session {
         requires fine { has_failed self.old ≡ false }
         requires allowed { LetsPlaced C.allows C.may_answer self.old command.now }
         requires answered { AreAnswered C.may_answer self.old }
-        ensures acts { Acts command.now (C.shown cluster.old) self.old (C.shown cluster.new) (after self.new result)
-            result }
-        ensures whole { KeepsBlocksWhole command.now (C.shown cluster.old) self.old (C.shown cluster.new) self.new
-            result }
-        ensures owed { IfErr result (Owed (world_at self.old (C.shown cluster.old)) (opened_of self.old) command.now) }
-        ensures keeps { (settings_of self.new ≡ settings_of self.old) × (has_failed self.new ≡ false) }
-        ensures answered { AreAnswered C.may_answer self.new }
-        ensures refused { IfErr result (RefusedSo C.may_answer self.old command.now) }
+        ensures { Executes C.may_answer command.now (C.shown cluster.old) self.old (C.shown cluster.new)
+            (after self.new result) result }
     {
         let path = self.target(command)?;
         if !self.is_placed(command, path.as_str()) {
@@ -133,7 +124,7 @@ impl Session {
     }
 
     /// Runs one command, and answers its reply. After an error it answers `Failed` for good, and leaves the cluster as it is. What
-    /// `Applied` says is the contract, for one command.
+    /// `Executes` says is the contract, for one command.
     ///
     /// | Error | Comes |
     /// |---|---|
@@ -166,19 +157,12 @@ impl Session {
         requires answered { AreAnswered C.may_answer self.old }
 
         // Over any cluster, and over one that agrees with a state whose open files the session carries.
-        ensures acts { has_failed self.old ≡ false
-            → Acts command.now (C.shown cluster.old) self.old (C.shown cluster.new) self.new result }
-        ensures whole { has_failed self.old ≡ false
-            → KeepsBlocksWhole command.now (C.shown cluster.old) self.old (C.shown cluster.new) self.new result }
-        ensures owed { has_failed self.old ≡ false
-            → IfErr result (Owed (world_at self.old (C.shown cluster.old)) (opened_of self.old) command.now) }
+        ensures executes { has_failed self.old ≡ false
+            → Executes C.may_answer command.now (C.shown cluster.old) self.old (C.shown cluster.new) self.new result }
 
         // After an error nothing more happens.
-        ensures failed { has_failed self.old ≡ true → (result ≡ Err errors.Failed) × (cluster.new ≡ cluster.old) }
-        ensures fails { (OnErr result (has_failed self.new ≡ true)) × (OnOk result (has_failed self.new ≡ false)) }
-        ensures keeps { (settings_of self.new ≡ settings_of self.old) × Stands (C.shown cluster.new) self.new }
-        ensures answered { AreAnswered C.may_answer self.new }
-        ensures refused { has_failed self.old ≡ false → IfErr result (RefusedSo C.may_answer self.old command.now) }
+        ensures failed { has_failed self.old ≡ true
+            → (result ≡ Err errors.Failed) × (cluster.new ≡ cluster.old) × (self.new ≡ self.old) }
     {
         if self.failed {
             return Err(HdfsError::Failed);

@@ -11,10 +11,9 @@ ghost use Rattle.hdfs_cluster.specs.Limits.{are_defaults};
 ghost use Rattle.hdfs_cluster.specs.declared.asks.Answer.TheVariants as answers;
 ghost use Rattle.hdfs_cluster.specs.declared.errors.ArgFault.TheVariants as args;
 ghost use Rattle.hdfs_cluster.specs.declared.errors.HdfsError.TheVariants as errors;
-ghost use Rattle.hdfs_model.specs.declared.commands.Command.TheVariants as Command;
+ghost use Rattle.hdfs_model.specs.declared.commands.Command.TheVariants as commands;
 ghost use Rattle.hdfs_cluster.specs.Namenode.{IsToWrite};
 ghost use Rattle.hdfs_names.specs.Paths.{is_path, absolute};
-ghost use Rattle.hdfs_model.specs.Owing.{IsNotOwed};
 ghost use Rattle.hdfs_namenode.specs.Asked.{ReachesAll, as_answer};
 ghost use Rattle.hdfs_namenode.specs.Clients.{name_of, proxy_of};
 ghost use Rattle.hdfs_namenode.specs.Relaying.{Came};
@@ -78,13 +77,12 @@ fn keep(
 }
 
 impl Session {
-    ghost use Rattle.hdfs_commands.specs.Acting.{Acts};
     ghost use Rattle.hdfs_commands.specs.Asking.{AreAnswered};
     ghost use Rattle.hdfs_commands.specs.Encrypted.{OnlyAsked};
+    ghost use Rattle.hdfs_commands.specs.Executing.{Executes};
     ghost use Rattle.hdfs_commands.specs.Preparing.{HasDefaults, LacksDefaults, Prepares, sizes_by};
-    ghost use Rattle.hdfs_commands.specs.Refusing.{IsAnsweredSo, SomeDefaults};
+    ghost use Rattle.hdfs_commands.specs.Refusing.{SomeDefaults};
     ghost use Rattle.hdfs_commands.specs.Session.{settings_of, has_failed, opened_of, after, Stands};
-    ghost use Rattle.hdfs_commands.specs.Whole.{KeepsBlocksWhole};
 
     /// The cluster's defaults, which are asked for once.
     fn defaults<C: Cluster>(&mut self, cluster: &mut C) -> Result<ServerDefaults, HdfsError>
@@ -109,19 +107,13 @@ impl Session {
     fn sizes(&self, defaults: &ServerDefaults, replication: u32, block_size: u64) -> WriteSizes
         ensures { result ≡ sizes_by self.now defaults.now replication block_size }
     {
-        WriteSizes {
-            replication,
-            block_size,
-            chunk: defaults.bytes_per_checksum,
-            packet_size: defaults.write_packet_size,
-            rebuilding: RebuildSettings {
-                window: self.settings.window,
-                rebuild_limit: self.settings.rebuild_limit,
-                replace: self.settings.replace,
-            },
-            setup_limit: self.settings.setup_limit,
-            encrypted: defaults.encrypt_data_transfer,
-        }
+        let rebuilding = RebuildSettings {
+            window: self.settings.window,
+            rebuild_limit: self.settings.rebuild_limit,
+            replace: self.settings.replace,
+        };
+        let setup_limit = self.settings.setup_limit;
+        WriteSizes::by(rebuilding, setup_limit, defaults, replication, block_size)
     }
 
     /// Asks for a new file at this path, with these options, and with the defaults where they say nothing.
@@ -190,17 +182,9 @@ impl Session {
             → LetsCreate C.allows C.may_answer (AnswersDefaults C.may_answer) (name_of self.old.namenode) path
             options.now }
         requires answered { AreAnswered C.may_answer self.old }
-        ensures acts { (name : List ℕ) → absolute (settings_of self.old).home name ≡ path
-            → Acts (Command.Create name options.now) (C.shown cluster.old) self.old (C.shown cluster.new)
-            (after self.new result) result }
-        ensures whole { (name : List ℕ) → absolute (settings_of self.old).home name ≡ path
-            → KeepsBlocksWhole (Command.Create name options.now) (C.shown cluster.old) self.old (C.shown cluster.new)
-            self.new result }
-        ensures owed { IfErr result IsNotOwed }
-        ensures keeps { (settings_of self.new ≡ settings_of self.old) × (has_failed self.new ≡ false) }
-        ensures answered { AreAnswered C.may_answer self.new }
-        ensures refused { (name : List ℕ) → IfErr result (IsAnsweredSo C.may_answer (name_of self.old.namenode) path
-            (Command.Create name options.now)) }
+        ensures { (name : List ℕ) → absolute (settings_of self.old).home name ≡ path
+            → Executes C.may_answer (commands.Create name options.now) (C.shown cluster.old) self.old
+            (C.shown cluster.new) (after self.new result) result }
     {
         if !options.are_limited() {
             return Err(HdfsError::InvalidArgument(ArgFault::Options));
@@ -235,17 +219,9 @@ impl Session {
         requires placed { opened_of self.old path ≡ false }
         requires allowed { LetsAppend C.allows C.may_answer (name_of self.old.namenode) path }
         requires answered { AreAnswered C.may_answer self.old }
-        ensures acts { absolute (settings_of self.old).home name.now ≡ path
-            → Acts (Command.Append name.now) (C.shown cluster.old) self.old (C.shown cluster.new)
-            (after self.new result) result }
-        ensures whole { absolute (settings_of self.old).home name.now ≡ path
-            → KeepsBlocksWhole (Command.Append name.now) (C.shown cluster.old) self.old (C.shown cluster.new) self.new
-            result }
-        ensures owed { IfErr result IsNotOwed }
-        ensures keeps { (settings_of self.new ≡ settings_of self.old) × (has_failed self.new ≡ false) }
-        ensures answered { AreAnswered C.may_answer self.new }
-        ensures refused { IfErr result (IsAnsweredSo C.may_answer (name_of self.old.namenode) path
-            (Command.Append name.now)) }
+        ensures { absolute (settings_of self.old).home name.now ≡ path
+            → Executes C.may_answer (commands.Append name.now) (C.shown cluster.old) self.old
+            (C.shown cluster.new) (after self.new result) result }
     {
         let defaults = self.defaults(cluster)?;
         let key = String::from_str(self.alloc, path.as_str())?;
@@ -284,25 +260,17 @@ impl Session {
         requires allowed { (file_id : Option ℕ) → IsAnsweredId C.may_answer (name_of self.old.namenode) path.now file_id
             → LetsWrite C.allows C.may_answer (name_of self.old.namenode) path.now file_id }
         requires answered { AreAnswered C.may_answer self.old }
-        ensures acts { (name : List ℕ) → absolute (settings_of self.old).home name ≡ path.now
-            → Acts (Command.Write name bytes.now) (C.shown cluster.old) self.old (C.shown cluster.new)
-            (after self.new result) result }
-        ensures whole { (name : List ℕ) → absolute (settings_of self.old).home name ≡ path.now
-            → KeepsBlocksWhole (Command.Write name bytes.now) (C.shown cluster.old) self.old (C.shown cluster.new)
-            self.new result }
-        ensures owed { IfErr result IsNotOwed }
-        ensures keeps { (settings_of self.new ≡ settings_of self.old) × (has_failed self.new ≡ false) }
-        ensures answered { AreAnswered C.may_answer self.new }
+        ensures { (name : List ℕ) → absolute (settings_of self.old).home name ≡ path.now
+            → Executes C.may_answer (commands.Write name bytes.now) (C.shown cluster.old) self.old
+            (C.shown cluster.new) (after self.new result) result }
     {
         let Some(writer) = self.writers.get_mut(path) else {
             unreachable!();
         };
-        match writer.write(cluster, &mut self.namenode, bytes) {
-            Ok(count) => Ok(Reply::Written {
-                bytes: count as u64,
-            }),
-            Err(error) => Err(error),
-        }
+        let count = writer.write(cluster, &mut self.namenode, bytes)?;
+        Ok(Reply::Written {
+            bytes: count as u64,
+        })
     }
 
     /// Closes an open file, and lets its writer go.
@@ -318,22 +286,14 @@ impl Session {
         requires allowed { (file_id : Option ℕ) → IsAnsweredId C.may_answer (name_of self.old.namenode) path.now file_id
             → LetsClose C.allows C.may_answer (name_of self.old.namenode) path.now file_id }
         requires answered { AreAnswered C.may_answer self.old }
-        ensures acts { (name : List ℕ) → absolute (settings_of self.old).home name ≡ path.now
-            → Acts (Command.Close name) (C.shown cluster.old) self.old (C.shown cluster.new) (after self.new result)
-            result }
-        ensures whole { (name : List ℕ) → absolute (settings_of self.old).home name ≡ path.now
-            → KeepsBlocksWhole (Command.Close name) (C.shown cluster.old) self.old (C.shown cluster.new) self.new
-            result }
-        ensures owed { IfErr result IsNotOwed }
-        ensures keeps { (settings_of self.new ≡ settings_of self.old) × (has_failed self.new ≡ false) }
-        ensures answered { AreAnswered C.may_answer self.new }
+        ensures { (name : List ℕ) → absolute (settings_of self.old).home name ≡ path.now
+            → Executes C.may_answer (commands.Close name) (C.shown cluster.old) self.old
+            (C.shown cluster.new) (after self.new result) result }
     {
         let Some(writer) = self.writers.remove(path) else {
             unreachable!();
         };
-        match writer.close(cluster, &mut self.namenode) {
-            Ok(()) => Ok(Reply::Closed),
-            Err(error) => Err(error),
-        }
+        writer.close(cluster, &mut self.namenode)?;
+        Ok(Reply::Closed)
     }
 }

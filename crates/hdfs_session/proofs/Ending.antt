@@ -1,5 +1,5 @@
 -- A whole session over any cluster, where it ends or stops.
-use Rattle.std.proofs.Common.{◌≡◌, ◌⊎◌, ℕ, suc, ◌+◌, ◌-◌, ◌<◌, List, [], ◌∷◌, ◌++◌, length, take, get_or, None, IsSome, Err, refl, sym, ◌∙◌, ap, subst, arith}
+use Rattle.std.proofs.Common.{◌≡◌, ◌⊎◌, ℕ, suc, ◌+◌, ◌<◌, List, [], ◌∷◌, ◌++◌, length, take, get_or, None, IsSome, Err, refl, sym, ◌∙◌, ap, subst, arith}
 use Rattle.std.specs.List.{slice_get}
 use Rattle.std.proofs.lemmas.List.{take_more}
 use Rattle.std.proofs.lemmas.Option.{slice_get_read}
@@ -8,8 +8,6 @@ use Rattle.hdfs_model.specs.declared.commands.Reply.{Reply}
 use Rattle.hdfs_model.specs.declared.commands.Fault.{Fault}
 use Rattle.hdfs_model.specs.Anywhere.{AreReplies, IsReply, Runs}
 use Rattle.hdfs_cluster.specs.Shown.{Shown, Later, SameReads}
-use Rattle.hdfs_cluster.specs.declared.errors.HdfsError.TheVariants as errors
-use Rattle.hdfs_cluster.specs.declared.errors.TransferFault.TheVariants as transfer
 use Rattle.hdfs_cluster.proofs.Frames.{later_refl, later_trans, same_reads_trans}
 use Rattle.hdfs_cluster.proofs.Times.{fails_until}
 use Rattle.hdfs_model.proofs.Telling.{tells_on, tells_since}

@@ -72,8 +72,8 @@ loop-command-preserved g c =
     let t = g.C.Cluster.shown c.loop-command.cluster in
     let u = g.C.Cluster.shown c.apply.new.cluster in
     let before = c.loop-command.invariant in
-    let now = c.in-Ok-apply.ensures in
-    let acts = now.acts before.fine in
+    let now = c.in-Ok-apply.ensures.executes before.fine in
+    let acts = now.acts in
     let w : World = world_of c.args.settings.now s in
     let i = c.loop-command.command-index in
     let command = c.command-item.result in
@@ -83,17 +83,17 @@ loop-command-preserved g c =
       reads = same_reads_trans s t u before.reads acts.anywhere.reads;
       own = own_next s t u c.loop-command.session c.apply.new.self before.own acts.links;
       answered = now.answered;
-      stands = now.keeps.1;
+      stands = acts.stands;
       fine = now.fails.1;
       tallied = acts.tallied s before.tallied;
-      settings = now.keeps.0 ∙ before.settings;
+      settings = now.settings ∙ before.settings;
       count = ap length c.push_reserved.ensures.items ∙ length_push c.loop-command.replies.items reply ∙ ap (λ (n : ℕ). n + 1) before.count;
       replied = subst (AreReplies (take (i + 1) c.args.commands.now)) (sym c.push_reserved.ensures.items)
           (replies_next c.args.commands.now i c.loop-command.replies.items command reply c.loop-command-test.true c.command-item.is before.replied acts.anywhere.replies);
       room = omega (arith, before.room, c.push_reserved.ensures.capacity);
       whole = λ state ready.
           whole_goes_on w state c.args.commands.now i c.loop-command.replies.items s t u c.loop-command.session c.apply.new.self command (before.told state ready) (before.whole state ready)
-          c.loop-command-test.true c.command-item.is reply (now.whole before.fine);
+          c.loop-command-test.true c.command-item.is reply now.whole;
       told = λ state ready.
           subst (λ (rs : List Reply). GoneOn w state c.args.commands.now (i + 1) rs u c.apply.new.self) (sym c.push_reserved.ensures.items)
           (goes_on w state c.args.commands.now i c.loop-command.replies.items t c.loop-command.session command (before.told state ready) c.loop-command-test.true c.command-item.is u c.apply.new.self reply acts);
@@ -108,7 +108,7 @@ returns-in-Err-apply-clause-anywhere g c =
     let before = c.loop-command.invariant in
     let f = c.fault_at-in-Err-apply in
     let command = c.command-item.result in
-    let acts = subst (λ (e : HdfsError). Acts command t c.loop-command.session u c.apply.new.self (failed_with e)) (sym f.ensures.error) (c.in-Err-apply.ensures.acts before.fine) in
+    let acts = subst (λ (e : HdfsError). Acts command t c.loop-command.session u c.apply.new.self (failed_with e)) (sym f.ensures.error) (c.in-Err-apply.ensures.executes before.fine).acts in
     let at : f.result.at ≡ c.loop-command.command-index + 1 = omega (arith, f.ensures.at, c.len.ensures, c.loop-command.replies.ok, before.count) in
     let kept = c.abandon.ensures.keeps in
     runs_failed c.args.commands.now s t u v c.loop-command.session c.apply.new.self c.loop-command.command-index command f.result c.loop-command-test.true c.command-item.is before.later before.reads before.own before.tallied acts
@@ -130,7 +130,7 @@ returns-in-Err-apply-clause-ran g c = λ good state ready.
     let i = c.loop-command.command-index in
     let command = c.command-item.result in
     let replies = c.loop-command.replies.items in
-    let acts = subst (λ (e : HdfsError). Acts command t c.loop-command.session u c.apply.new.self (failed_with e)) (sym f.ensures.error) (c.in-Err-apply.ensures.acts before.fine) in
+    let acts = subst (λ (e : HdfsError). Acts command t c.loop-command.session u c.apply.new.self (failed_with e)) (sym f.ensures.error) (c.in-Err-apply.ensures.executes before.fine).acts in
     let at : f.result.at ≡ i + 1 = omega (arith, f.ensures.at, c.len.ensures, c.loop-command.replies.ok, before.count) in
     let gone = before.told state ready in
     let kept = c.abandon.ensures.keeps in
@@ -183,8 +183,8 @@ returns-in-Err-apply-clause-whole g c = λ good state ready.
     let f = c.fault_at-in-Err-apply in
     let i = c.loop-command.command-index in
     let command = c.command-item.result in
-    let acts = subst (λ (e : HdfsError). Acts command t c.loop-command.session u c.apply.new.self (failed_with e)) (sym f.ensures.error) (c.in-Err-apply.ensures.acts before.fine) in
-    let keeps = subst (λ (e : HdfsError). KeepsBlocksWhole command t c.loop-command.session u c.apply.new.self (failed_with e)) (sym f.ensures.error) (c.in-Err-apply.ensures.whole before.fine) in
+    let acts = subst (λ (e : HdfsError). Acts command t c.loop-command.session u c.apply.new.self (failed_with e)) (sym f.ensures.error) (c.in-Err-apply.ensures.executes before.fine).acts in
+    let keeps = subst (λ (e : HdfsError). KeepsBlocksWhole command t c.loop-command.session u c.apply.new.self (failed_with e)) (sym f.ensures.error) (c.in-Err-apply.ensures.executes before.fine).whole in
     let at : f.result.at ≡ i + 1 = omega (arith, f.ensures.at, c.len.ensures, c.loop-command.replies.ok, before.count) in
     leaves_stopped w state c.args.commands.now i c.loop-command.replies.items s t u c.loop-command.session c.apply.new.self command (before.told state ready) (before.whole state ready)
     c.loop-command-test.true c.command-item.is v f.result acts keeps c.abandon.ensures.files c.abandon.ensures.keeps.1 at
@@ -206,7 +206,7 @@ returns-in-Err-apply-clause-refused g c = λ some.
     let f = c.fault_at-in-Err-apply in
     let i = c.loop-command.command-index in
     let command = c.command-item.result in
-    let refused = subst (λ (x : Settings). RefusedBy g.C.Cluster.may_answer x command c.in-Err-apply.error) before.settings (c.in-Err-apply.ensures.refused before.fine) in
+    let refused = subst (λ (x : Settings). RefusedBy g.C.Cluster.may_answer x command c.in-Err-apply.error) before.settings (c.in-Err-apply.ensures.executes before.fine).refused in
     let at : f.result.at - 1 ≡ i = omega (arith, f.ensures.at, c.len.ensures, c.loop-command.replies.ok, before.count) in (
       command,
       ap (slice_get c.args.commands.now) at ∙ slice_get_read c.args.commands.now (length c.args.commands.now) i command refl c.loop-command-test.true c.command-item.is,

@@ -18,7 +18,7 @@ returns-in-Ok g c = λ state ready.
     let now = g.C.Cluster.shown c.loop-session.cluster in
     let made = c.in_ok-session.ensures in
     answers_reply start now c.args.settings.now c.in_ok-session.session c.args.command.now c.requires.reads made.settings.0 made.none.0 made.none.1 state ready (c.loop-session.invariant.fits state ready)
-    (g.C.Cluster.shown c.apply.new.cluster) c.apply.new.self c.in-Ok.reply (c.in-Ok.ensures.acts made.fresh)
+    (g.C.Cluster.shown c.apply.new.cluster) c.apply.new.self c.in-Ok.reply (c.in-Ok.ensures.executes made.fresh).acts
 
 -- an error leaves the files
 pub returns-then-left-le1 : goal.returns-then-left-le1
@@ -27,7 +27,7 @@ returns-then-left-le1 g c = λ state ready.
     let now = g.C.Cluster.shown c.loop-session.cluster in
     let made = c.in_ok-session.ensures in
     answers_error start now c.args.settings.now c.in_ok-session.session c.args.command.now c.requires.reads made.settings.0 made.none.0 made.none.1 state ready (c.loop-session.invariant.fits state ready)
-    (g.C.Cluster.shown c.apply.new.cluster) c.apply.new.self c.in-Err.error (c.in-Err.ensures.acts made.fresh)
+    (g.C.Cluster.shown c.apply.new.cluster) c.apply.new.self c.in-Err.error (c.in-Err.ensures.executes made.fresh).acts
 
 -- and so does one after which the read is tried again
 pub loop-session-preserved : goal.loop-session-preserved
@@ -36,7 +36,7 @@ loop-session-preserved g c =
     let now = g.C.Cluster.shown c.loop-session.cluster in
     let new = g.C.Cluster.shown c.apply.new.cluster in
     let made = c.in_ok-session.ensures in
-    let acts = c.in-Err.ensures.acts made.fresh in
+    let acts = (c.in-Err.ensures.executes made.fresh).acts in
     record {
       later = later_trans start now new c.loop-session.invariant.later acts.anywhere.later;
       fits = λ state ready.

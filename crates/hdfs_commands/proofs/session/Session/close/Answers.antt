@@ -1,13 +1,11 @@
 -- A close of a session.
-use Rattle.std.proofs.Common.{ℕ, true, List, None, refl, sym, subst}
+use Rattle.std.proofs.Common.{None, sym}
 use Rattle.std.proofs.lemmas.Map.Text.{btree_map_updates_text}
-use Rattle.hdfs_model.specs.declared.commands.Command.TheVariants as commands
+use Rattle.std.proofs.lemmas.Result.{err_from_is_err_and}
 use Rattle.hdfs_cluster.specs.Requests.{LetsClose, IsAnsweredId}
 use Rattle.hdfs_namenode.specs.Clients.{name_of, proxy_of}
-use Rattle.hdfs_file_writer.specs.Writers.{file_id_of}
-use Rattle.hdfs_commands.proofs.WholeWriting.{close_keeps, sending_keeps}
-use Rattle.hdfs_commands.proofs.WriteEnds.{close_acts, close_fails, close_not_owed}
-use Rattle.hdfs_commands.proofs.Answered.{answered_put, keeps_same}
+use Rattle.hdfs_file_writer.specs.Writers.{file_id_of, path_of}
+use Rattle.hdfs_commands.proofs.Sending.{lets_writer, close_executes, close_stops}
 use Rattle.hdfs_namenode.proofs.Services.{reaches_service}
 use Rattle.hdfs_namenode.specs.Views.{Whole}
 use Rattle.hdfs_commands.proofs.session.Session.close.Goals as goal
@@ -20,104 +18,26 @@ close-requires-clause-stands g c = (c.requires.stands.each c.args.path.now c.in-
 
 pub close-requires-clause-allowed : goal.close-requires-clause-allowed
 close-requires-clause-allowed g c =
-    let at = (c.requires.stands.each c.args.path.now c.in-Some.writer (sym c.in-Some.ensures.value)).1 in
-    let id = file_id_of c.in-Some.writer in
-    let answered = (c.requires.answered.files c.args.path.now c.in-Some.writer (sym c.in-Some.ensures.value)).id in
+    let here = sym c.in-Some.ensures.value in
     let client = name_of c.args.self.now.namenode in
-    subst (λ (p : List ℕ). LetsClose g.C.Cluster.allows g.C.Cluster.may_answer client p id) (sym at)
-    (c.requires.allowed id (subst (λ (p : List ℕ). IsAnsweredId g.C.Cluster.may_answer client p id) at answered))
-
-pub returns-in-Ok-clause-acts : goal.returns-in-Ok-clause-acts
-returns-in-Ok-clause-acts g c = λ name is.
-    let session = c.args.self.now in
-    let path = c.args.path.now in
-    close_acts (g.C.Cluster.shown c.args.cluster.now) (g.C.Cluster.shown c.close.new.cluster) session (record session { writers = c.remove.new.self; namenode = c.close.new.namenode }) name path c.in-Some.writer
-    (record {
-      here = sym c.in-Some.ensures.value;
-      writers = btree_map_updates_text path session.writers c.remove.new.self None c.remove.ensures.updates;
-      before = c.requires.stands;
-      sound = g.met.C.Cluster.sound c.args.cluster.now;
-      called = is;
-      named = c.requires.path;
-      settings = refl;
-      namenode = c.close.ensures.client;
-    })
-    (λ fine. fine) (c.in-Ok.ensures.closed Whole c.requires.stands.reaches)
-
-pub returns-in-Err-clause-acts : goal.returns-in-Err-clause-acts
-returns-in-Err-clause-acts g c = λ name is.
-    let session = c.args.self.now in
-    let path = c.args.path.now in
-    let here = sym c.in-Some.ensures.value in
-    close_fails (g.C.Cluster.shown c.args.cluster.now) (g.C.Cluster.shown c.close.new.cluster) session (record session { writers = c.remove.new.self; namenode = c.close.new.namenode; failed = true }) name path c.in-Some.writer
-    (record {
-      here = here;
-      writers = btree_map_updates_text path session.writers c.remove.new.self None c.remove.ensures.updates;
-      before = c.requires.stands;
-      sound = g.met.C.Cluster.sound c.args.cluster.now;
-      called = is;
-      named = c.requires.path;
-      settings = refl;
-      namenode = c.close.ensures.client;
-    })
-    refl c.in-Err.error (c.in-Err.ensures.err Whole c.requires.stands.reaches (c.requires.stands.fine c.requires.fine path c.in-Some.writer here))
-
-pub returns-in-Err-clause-owed : goal.returns-in-Err-clause-owed
-returns-in-Err-clause-owed g c =
-    close_not_owed (g.C.Cluster.shown c.args.cluster.now) (g.C.Cluster.shown c.close.new.cluster) c.in-Some.writer c.in-Err.error
-    (c.in-Err.ensures.err Whole c.requires.stands.reaches (c.requires.stands.fine c.requires.fine c.args.path.now c.in-Some.writer (sym c.in-Some.ensures.value)))
-
-pub returns-in-Ok-clause-whole : goal.returns-in-Ok-clause-whole
-returns-in-Ok-clause-whole g c = λ name is.
-    let session = c.args.self.now in
-    let path = c.args.path.now in
-    close_keeps (g.C.Cluster.shown c.args.cluster.now) (g.C.Cluster.shown c.close.new.cluster) session (record session { writers = c.remove.new.self; namenode = c.close.new.namenode }) name path c.in-Some.writer
-    (record {
-      here = sym c.in-Some.ensures.value;
-      writers = btree_map_updates_text path session.writers c.remove.new.self None c.remove.ensures.updates;
-      before = c.requires.stands;
-      sound = g.met.C.Cluster.sound c.args.cluster.now;
-      called = is;
-      named = c.requires.path;
-      settings = refl;
-      namenode = c.close.ensures.client;
-    })
-    (c.in-Ok.ensures.closed Whole c.requires.stands.reaches).closes
-
-pub returns-in-Err-clause-whole : goal.returns-in-Err-clause-whole
-returns-in-Err-clause-whole g c = λ name is.
-    let session = c.args.self.now in
-    let path = c.args.path.now in
-    let here = sym c.in-Some.ensures.value in
-    sending_keeps (g.C.Cluster.shown c.args.cluster.now) (g.C.Cluster.shown c.close.new.cluster) session (record session { writers = c.remove.new.self; namenode = c.close.new.namenode }) name path c.in-Some.writer
-    (commands.Close name) None
-    (record {
-      here = here;
-      writers = btree_map_updates_text path session.writers c.remove.new.self None c.remove.ensures.updates;
-      before = c.requires.stands;
-      sound = g.met.C.Cluster.sound c.args.cluster.now;
-      called = is;
-      named = c.requires.path;
-      settings = refl;
-      namenode = c.close.ensures.client;
-    })
-    is c.in-Err.error (c.in-Err.ensures.err Whole c.requires.stands.reaches (c.requires.stands.fine c.requires.fine path c.in-Some.writer here)).touches
+    lets_writer (IsAnsweredId g.C.Cluster.may_answer client) (LetsClose g.C.Cluster.allows g.C.Cluster.may_answer client) (path_of c.in-Some.writer) c.args.path.now (file_id_of c.in-Some.writer)
+    (c.requires.stands.each c.args.path.now c.in-Some.writer here).1 (c.requires.answered.files c.args.path.now c.in-Some.writer here).id c.requires.allowed
 
 pub close-requires-clause-answered : goal.close-requires-clause-answered
 close-requires-clause-answered g c = c.requires.answered.files c.args.path.now c.in-Some.writer (sym c.in-Some.ensures.value)
 
-pub returns-in-Ok-clause-answered : goal.returns-in-Ok-clause-answered
-returns-in-Ok-clause-answered g c =
-    let session = c.args.self.now in
+pub returns : goal.returns
+returns g c = λ name is.
     let path = c.args.path.now in
-    answered_put session (record session { writers = c.remove.new.self; namenode = c.close.new.namenode }) path None c.close.ensures.client.name
-    (btree_map_updates_text path session.writers c.remove.new.self None c.remove.ensures.updates) tt
-    (keeps_same g.C.Cluster.may_answer c.args.self.now.namenode c.close.new.namenode c.close.ensures.client c.requires.answered.defaults) c.requires.answered
+    close_executes g.C.Cluster.may_answer g.C.Cluster.shown c.args.cluster.now c.close.new.cluster c.args.self.now c.remove.new.self c.close.new.namenode name path c.in-Some.writer (sym c.in-Some.ensures.value)
+    c.requires.path is c.requires.fine c.requires.stands c.requires.answered (g.met.C.Cluster.sound c.args.cluster.now)
+    (btree_map_updates_text path c.args.self.now.writers c.remove.new.self None c.remove.ensures.updates) c.close.ensures.client (c.in_ok-close.ensures.closed Whole c.requires.stands.reaches)
 
-pub returns-in-Err-clause-answered : goal.returns-in-Err-clause-answered
-returns-in-Err-clause-answered g c =
-    let session = c.args.self.now in
+pub returns-in_err-close : goal.returns-in_err-close
+returns-in_err-close g c =
+    let p = err_from_is_err_and c.from_residual.result c.from_residual.ensures.1 in
     let path = c.args.path.now in
-    answered_put session (record session { writers = c.remove.new.self; namenode = c.close.new.namenode }) path None c.close.ensures.client.name
-    (btree_map_updates_text path session.writers c.remove.new.self None c.remove.ensures.updates) tt
-    (keeps_same g.C.Cluster.may_answer c.args.self.now.namenode c.close.new.namenode c.close.ensures.client c.requires.answered.defaults) c.requires.answered
+    rw (p.1, p.2) (λ name is. close_stops g.C.Cluster.may_answer g.C.Cluster.shown c.args.cluster.now c.close.new.cluster c.args.self.now c.remove.new.self c.close.new.namenode name path c.in-Some.writer (sym c.in-Some.ensures.value)
+    c.requires.path is c.requires.fine c.requires.stands c.requires.answered (g.met.C.Cluster.sound c.args.cluster.now)
+    (btree_map_updates_text path c.args.self.now.writers c.remove.new.self None c.remove.ensures.updates) c.close.ensures.client
+    c.in_err-close.field-0.0 (c.in_err-close.ensures.err Whole c.requires.stands.reaches))

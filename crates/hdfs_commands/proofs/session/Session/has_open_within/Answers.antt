@@ -1,5 +1,5 @@
 -- Each path that is open is looked at.
-use Rattle.std.proofs.Common.{length, String, ◌∙◌, ap, sym, subst}
+use Rattle.std.proofs.Common.{length, ◌∙◌, ap, sym, subst}
 use Rattle.std.proofs.lemmas.List.{length_push}
 use Rattle.std.proofs.lemmas.Map.Iter.{iter_turn, iter_end}
 use Rattle.hdfs_cluster.specs.Names.{is_within}
