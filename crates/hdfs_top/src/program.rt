@@ -44,7 +44,7 @@ fn run_source<S: Source, K: Sink, C: Store>(
         (outside (S.shown source.new) (K.shown sink.new) (C.shown store.new) (C.is_fresh store.new)) }
 {
     match read_at_most(alloc, source, SCRIPT_LIMIT + 1) {
-        Ok(bytes) => run_script(alloc, bytes.as_slice(), sink, store, note),
+        Ok(bytes) => run_script(alloc, bytes, sink, store, note),
         Err(ReadFault::NoMemory) => 3,
         Err(ReadFault::Failed) => 4,
     }

@@ -65,10 +65,11 @@ fn run_commands<K: Sink, C: Store>(
     }
 }
 
-// Runs what was read of a script over a store: its lines are loaded, and its commands run, unless a line is bad.
+// Runs what was read of a script over a store: its lines are loaded, and its commands run, unless a line is bad. Its text is let go
+// before, since they are all that is wanted of it.
 fn run_parsed<K: Sink, C: Store>(
     alloc: Global,
-    text: &[u8],
+    text: Vec<u8>,
     read: Parsed,
     sink: &mut K,
     store: &mut C,
@@ -90,9 +91,12 @@ fn run_parsed<K: Sink, C: Store>(
     };
     let fresh = store.fresh();
     match load_script(store, read) {
-        Ok(commands) => run_commands(alloc, &settings, commands.as_slice(), sink, store, note),
+        Ok(commands) => {
+            drop(text);
+            run_commands(alloc, &settings, commands.as_slice(), sink, store, note)
+        }
         Err(LoadFault::Refused(line)) => {
-            *note = note_of_script(complaint_at(alloc, text, fresh, line));
+            *note = note_of_script(complaint_at(alloc, text.as_slice(), fresh, line));
             refuse(sink, line)
         }
         Err(LoadFault::NoMemory) => 3,
@@ -102,21 +106,21 @@ fn run_parsed<K: Sink, C: Store>(
 /// Runs the script that bytes are over a store, or prints which line is the first bad one. They came from some source.
 pub(crate) fn run_script<K: Sink, C: Store>(
     alloc: Global,
-    bytes: &[u8],
+    bytes: Vec<u8>,
     sink: &mut K,
     store: &mut C,
     note: &mut Note,
 ) -> u8
     requires namenode { 0 < (C.shown store.old).namenodes }
     requires allowed { LetsAny C.allows C.may_answer }
-    ensures ran { (source left : SourceShown) → Gave source bytes.now left
+    ensures ran { (source left : SourceShown) → Gave source bytes.items left
         → RanSession (outside source (K.shown sink.old) (C.shown store.old) (C.is_fresh store.old)) result
         (outside left (K.shown sink.new) (C.shown store.new) (C.is_fresh store.new)) }
-    ensures noted { result ≡ 2 → (source left : SourceShown) → Gave source bytes.now left
+    ensures noted { result ≡ 2 → (source left : SourceShown) → Gave source bytes.items left
         → NotesFault (outside source (K.shown sink.old) (C.shown store.old) (C.is_fresh store.old)) note.new
         (outside left (K.shown sink.new) (C.shown store.new) (C.is_fresh store.new)) }
 {
-    match parse(alloc, bytes) {
+    match parse(alloc, bytes.as_slice()) {
         Ok(read) => run_parsed(alloc, bytes, read, sink, store, note),
         Err(NoMemory) => 3,
     }

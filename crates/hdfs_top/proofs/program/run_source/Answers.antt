@@ -4,11 +4,9 @@ use Rattle.hdfs_top.proofs.program.run_source.Goals as goal
 
 pub returns-in-Ok : goal.returns-in-Ok
 returns-in-Ok g c =
-    let ran = rw c.as_slice.ensures.value at c.run_script.ensures.ran in
-    let noted = rw c.as_slice.ensures.value at c.run_script.ensures.noted in
     record {
-      ran = ran _ _ (record { taken = c.read_at_most.ensures.taken; fine = c.in-Ok.ensures.cause.fine; front = c.in-Ok.ensures.bytes });
-      noted = λ two. noted two _ _ (record { taken = c.read_at_most.ensures.taken; fine = c.in-Ok.ensures.cause.fine; front = c.in-Ok.ensures.bytes });
+      ran = c.run_script.ensures.ran _ _ (record { taken = c.read_at_most.ensures.taken; fine = c.in-Ok.ensures.cause.fine; front = c.in-Ok.ensures.bytes });
+      noted = λ two. c.run_script.ensures.noted two _ _ (record { taken = c.read_at_most.ensures.taken; fine = c.in-Ok.ensures.cause.fine; front = c.in-Ok.ensures.bytes });
     }
 
 -- there was no memory to read the source
