@@ -13,6 +13,7 @@ mod mem_link;
 mod planned_asks;
 mod read_link;
 mod responding;
+mod sent_packet;
 mod set_up;
 mod shortening;
 mod storing;

@@ -5,6 +5,7 @@ ghost use Rattle.hdfs_mem_faults.specs.Plans.{fails_at, SameLinks, SamePlans};
 ghost use Rattle.hdfs_cluster.specs.Sending.{offset_of, uuids};
 ghost use Rattle.hdfs_mem_cluster.specs.Telling.{GoesOn, TellsAll};
 
+use crate::sent_packet::SentPacket;
 use bytes::Bytes;
 use hdfs_cluster::{DatanodeInfo, Setup};
 use hdfs_mem_datanodes::{Datanodes, Held};
@@ -18,7 +19,7 @@ use std::alloc::Global;
 pub struct MemWrite {
     pub(crate) setup: Setup,
     pub(crate) base: Vec<Held>,
-    pub(crate) sent: Vec<WritePacket>,
+    pub(crate) sent: Vec<SentPacket>,
     pub(crate) responses: Vec<Ack>,
     pub(crate) acknowledged: usize,
     ghost within: { acknowledged ≤ length sent.items },
@@ -123,7 +124,6 @@ impl MemWrite {
         ensures rest { SameNodes nodes.old nodes.new }
     {
         let bytes = Bytes::copy_from_slice(alloc, packet.payload())?;
-        let copy = packet.copy(alloc)?;
         self.sent.reserve(1)?;
         let at = offset_of(packet.header());
         let locs = self.setup.locs.as_slice();
@@ -132,7 +132,7 @@ impl MemWrite {
             return Ok(true);
         }
         nodes.take_all(locs, self.setup.block.block_id, link);
-        self.sent.push_reserved(copy);
+        self.sent.push_reserved(SentPacket::of(packet, bytes));
         Ok(false)
     }
 
@@ -170,7 +170,7 @@ impl MemWrite {
         ensures seqno { TakesSeqno bad result self.old self.new }
         ensures responses { self.new.responses ≡ self.old.responses }
     {
-        let due = self.sent[self.acknowledged].header().seqno;
+        let due = self.sent[self.acknowledged].seqno();
         if bad {
             return other_seqno(due);
         }

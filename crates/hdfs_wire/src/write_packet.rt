@@ -157,6 +157,20 @@ impl WritePacket {
         &self.payload
     }
 
+    /// The bytes of a chunk, which has a checksum.
+    pub fn chunk(&self) -> u32
+        ensures { result ≡ self.now.chunk }
+    {
+        self.chunk
+    }
+
+    /// The most bytes that its payload may have.
+    pub fn limit(&self) -> usize
+        ensures { result ≡ self.now.limit }
+    {
+        self.limit
+    }
+
     /// Whether packets may have these sizes, both in bytes: a chunk has from 1 to `CHUNK_LIMIT`, and a packet has none or at
     /// least 37 more than a chunk, below 2^31. It takes no memory.
     pub fn are_sizes(bytes_per_checksum: u32, max_packet_size: u32) -> bool

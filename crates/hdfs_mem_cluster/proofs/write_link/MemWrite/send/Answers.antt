@@ -30,7 +30,6 @@ returns-clause-ok c =
     let locs = c.as_slice-locs.ensures in
     let is_at : c.offset_of-at.result ≡ offset_of packet.header.offset_in_block = search rules in
     let is_payload : c.in_ok-bytes.bytes ≡ packet.payload = search rules in
-    let is_copy : c.in_ok-copy.copy ≡ packet = search rules in
     let first = c.first.ensures ∙ ap (λ (xs : List DatanodeInfo). slice_index_or (uuids xs) 0 []) locs in
     let counts = subst (λ (u : List ℕ). Counts faults (sends_to u) c.send.result c.send.new.self) first c.send.ensures in
     let puts = puts_packet v.setup c.args.link packet c.args.nodes.now mid new c.offset_of-at.result c.in_ok-bytes.bytes is_at is_payload
@@ -40,7 +39,7 @@ returns-clause-ok c =
     ∙ ap (λ (xs : List DatanodeInfo). cond (is_on xs block d b) (undisturbed_in mid d b other && eqb c.args.link other) (undisturbed_in mid d b other)) locs) in (
       record {
         same = record { setup = refl; base = refl; responses = refl; acknowledged = refl };
-        sent = c.push_reserved.ensures.items ∙ ap (λ (xs : List Outgoing). xs ++ c.in_ok-copy.copy ∷ []) c.reserve.ensures.items ∙ ap (λ (x : Outgoing). v.sent.items ++ x ∷ []) is_copy;
+        sent = c.push_reserved.ensures.items ∙ ap (λ (xs : List Outgoing). xs ++ c.of.result ∷ []) c.reserve.ensures.items ∙ ap (λ (x : Outgoing). v.sent.items ++ x ∷ []) c.of.ensures;
         puts = puts;
       },
       subst (λ (b : Bool). Counts faults (sends_to (slice_index_or (uuids v.setup.locs) 0 [])) b c.send.new.self) c.if-send.false counts,
