@@ -213,7 +213,7 @@ module _ (s t : Shown) (r : BlockRead) (ask : ReadAsk) (l : ℕ) (holds : Holds 
 
   -- a link that was open is another one
   apart : (m : ℕ) → IsSome (s.reads m) → m ≢ l
-  apart m is same = not_some (s.reads m) (ap s.reads same ∙ opened.fresh.read) is
+  apart m is same = not_some (s.reads m) (ap s.reads same ∙ opened.fresh) is
 
   -- what is shown of the new link
   abbrev opened_read : OpenRead
@@ -247,7 +247,7 @@ module _ (s t : Shown) (r : BlockRead) (ask : ReadAsk) (l : ℕ) (holds : Holds 
     only = opened_only;
     others = λ m no is. opened.reading.others m (apart m is);
     places = told_weaker (ReadsAt l) (OthersStay s r) s.picture t.picture (λ p q at m no is. at.others m (apart m is)) opened.reading.picture;
-    own = λ m is. inr (let same : l ≡ m = cc in ap s.reads (sym same) ∙ opened.fresh.read);
+    own = λ m is. inr (let same : l ≡ m = cc in ap s.reads (sym same) ∙ opened.fresh);
     asks = λ m is. inr (opened_asks m (let same : l ≡ m = cc in same));
     frees = λ m not_its free. ⊎_elim (λ its. absurd (cc (idle, its))) (λ none. opened.reading.others m (λ same. not_its (ap Some (sym same))) ∙ none) free;
     holds = record { range = holds.range; tried = holds.tried; link = λ m is. opened_link m (let e : l ≡ m = cc in e); position = λ at is. absurd (cc) };

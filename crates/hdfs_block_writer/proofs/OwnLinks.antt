@@ -93,7 +93,7 @@ pub own_link_opened : (a b : Shown) (setup : Setup) (link : ℕ) → WriteOpened
 own_link_opened a b setup link opened = record {
   later = opened.only.later;
   reads = only_writes_reads a b opened.only;
-  others = λ other some apart. opened.others other (λ same. some_none (a.writes other) some (ap a.writes same ∙ opened.fresh.write));
+  others = λ other some apart. opened.others other (λ same. some_none (a.writes other) some (ap a.writes same ∙ opened.fresh));
   none = λ other was apart. ⊎_elim (λ none. opened.others other (other_than link other apart) ∙ none) (λ own. absurd (cc own)) was;
-  fresh = λ other mine. inr (ap a.writes (let same : other ≡ link = cc mine in same) ∙ opened.fresh.write);
+  fresh = λ other mine. inr (ap a.writes (let same : other ≡ link = cc mine in same) ∙ opened.fresh);
 }

@@ -136,7 +136,7 @@ module _ (settings : RebuildSettings) (client : List ℕ) (a : Shown) (pipe : Bl
     own : OnlyOwnLink a (Some pipe.link) new (Some pipe'.link)
     own =
         own_fresh pipe.link a m then.shown until fell.gone.ended chain.links pipe'.link new
-        (record { later = ok.begins.later; reads = ok.begins.reads; others = ok.others }) ok.fresh.write
+        (record { later = ok.begins.later; reads = ok.begins.reads; others = ok.others }) ok.fresh
 
     keeps : KeepsPlan (long_plan pipe.plan bytes) pipe'.plan
     keeps = keeps_plan_trans (long_plan pipe.plan bytes) then.plan pipe'.plan chain.keeps ok.begins.next.keeps

@@ -12,7 +12,7 @@ use Rattle.hdfs_cluster.specs.declared.picture.OpenWrite.{OpenWrite}
 use Rattle.hdfs_cluster.specs.Counts.{FaultCounts, Rose}
 use Rattle.hdfs_cluster.specs.Picture.{Picture, SamePicture, Told}
 use Rattle.hdfs_cluster.specs.Sending.{Came, Broke, WritePlace, uuids, end_of, seqno_of}
-use Rattle.hdfs_cluster.specs.Shown.{Shown, Later, SameReadPlaces, IsUnused}
+use Rattle.hdfs_cluster.specs.Shown.{Shown, Later, SameReadPlaces}
 use Rattle.hdfs_cluster.specs.Writing.{WritesAt, Starts, Sends, IsBehind, MayBeBehind, Responds, Releases}
 
 -- the datanodes of an open link, by their uuids
@@ -43,7 +43,7 @@ pub record IsSetup (setup : Setup) : Type 0 where
 -- a pipeline was set up
 pub record WriteOpened (old : Shown) (setup : Setup) (link : ℕ) (new : Shown) : Type 0 where
   pub only : OnlyWrites old new
-  pub fresh : IsUnused link old
+  pub fresh : old.writes link ≡ None
   pub others : (other : ℕ) → other ≢ link → new.writes other ≡ old.writes other
   pub opened : new.writes link ≡ Some (record { setup = setup; end = None; waiting = [] })
   pub starts : Told (Starts link setup) old.picture new.picture

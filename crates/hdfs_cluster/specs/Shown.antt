@@ -96,15 +96,10 @@ pub record Reading (link : ℕ) (old new : Shown) : Type 0 where
   pub writes : (other : ℕ) → new.writes other ≡ old.writes other
   pub picture : Told (ReadsAt link) old.picture new.picture
 
--- the link is used for nothing
-pub record IsUnused (link : ℕ) (shown : Shown) : Type 0 where
-  pub read : shown.reads link ≡ None
-  pub write : shown.writes link ≡ None
-
 -- a read was opened
 pub record Opened (old : Shown) (ask : ReadAsk) (link : ℕ) (new : Shown) : Type 0 where
   pub reading : Reading link old new
-  pub fresh : IsUnused link old
+  pub fresh : old.reads link ≡ None
   pub checksums : Option ChecksumInfo
   pub opened : new.reads link ≡ Some (record { ask = ask; checksums = checksums; before = old.counts.nodes ask.node.datanode_uuid })
   pub begins : Told (Begins ask link) old.picture new.picture

@@ -1,10 +1,7 @@
 -- What an acknowledgement and the end of a pipeline do to what a cluster shows: nothing that is held changes.
-use Rattle.std.proofs.Common.{◌≡◌, ◌≢◌, ◌⊎◌, inl, inr, ℕ, ℤ, ◌+◌, ◌<◌, ◌≤◌, Bool, true, false, List, [], ◌∷◌, ◌++◌, length, map, take, drop, get_or, Option, Some, None, is_some, unwrap_or, zero, suc, refl, sym, ◌∙◌, ap, subst, arith, add-one, take-append-drop}
+use Rattle.std.proofs.Common.{◌≡◌, ◌≢◌, ◌⊎◌, inl, inr, ℕ, ℤ, ◌+◌, ◌<◌, ◌≤◌, Bool, true, false, List, [], ◌∷◌, ◌++◌, length, map, take, drop, get_or, Option, Some, None, unwrap_or, zero, suc, refl, sym, ◌∙◌, ap, subst, arith, add-one, take-append-drop}
 use Rattle.std.proofs.Math.Seq.{get_or-append_seam}
 use Rattle.std.proofs.lemmas.List.{length-take-le, map-append}
-use Rattle.std.specs.Option.{IsSome}
-use Rattle.slab.specs.Slab as slab
-use Rattle.slab.specs.Slab.{Slab, Updates}
 use Rattle.hdfs_wire.specs.declared.ack.Ack.{Ack}
 use Rattle.hdfs_wire.specs.Outgoing.{Outgoing}
 use Rattle.hdfs_cluster.specs.declared.messages.Setup.{Setup}
@@ -25,14 +22,12 @@ use Rattle.hdfs_cluster.specs.Shown.{Shown}
 use Rattle.hdfs_cluster.specs.Writing.{WritesAt, Responds}
 use Rattle.hdfs_mem_namenode.specs.declared.namespace.Namespace.{Namespace}
 use Rattle.hdfs_mem_datanodes.specs.declared.datanodes.Datanodes.{Datanodes}
-use Rattle.hdfs_mem_cluster.specs.declared.mem_link.MemLink.{MemLink}
-use Rattle.hdfs_mem_cluster.specs.declared.mem_link.MemLink.TheVariants as links
+use Rattle.hdfs_mem_cluster.specs.declared.mem_links.MemLinks.{MemLinks}
 use Rattle.hdfs_mem_cluster.specs.declared.write_link.MemWrite.{MemWrite}
-use Rattle.hdfs_mem_cluster.specs.Links.{read_told, read_place, write_told, write_place, OnWrite, OnWrites, IsDueOn, AckedOn}
+use Rattle.hdfs_mem_cluster.specs.Links.{read_told, read_place, write_at, write_told, write_place, AckedOn, ChangesWrite}
 use Rattle.hdfs_mem_cluster.specs.MemShown.{picture_at}
 use Rattle.hdfs_mem_cluster.specs.Telling.{failures}
 use Rattle.hdfs_mem_cluster.specs.Writes.{told_at, told_of, place_at, place_of, disturbed_at}
-use Rattle.hdfs_mem_cluster.proofs.Places.{slot_stays, no_read, no_read_place}
 use Rattle.hdfs_mem_cluster.proofs.Counting.{same_namenodes, NoneFalls, falls_beside}
 use Rattle.hdfs_mem_cluster.proofs.Stills.{shown_at}
 use Rattle.hdfs_mem_cluster.proofs.Telling.{failed_status}
@@ -59,11 +54,7 @@ awaited v write o was is some =
     let same : told_of v ≡ write = ap (λ (x : Option OpenWrite). unwrap_or x (told_of v)) (sym was ∙ is) in
     some_wait v.acknowledged v.sent.items (subst (λ (y : OpenWrite). 0 < length y.waiting) (sym same) some)
 
-pub awaited_on : (o : MemLink) (write : OpenWrite) → write_told (Some o) ≡ Some write → 0 < length write.waiting → OnWrite IsDueOn o
-awaited_on (links.Write v) write is some = awaited v write (write_told (Some (links.Write v))) refl is some
-awaited_on (links.Read v) write is some = absurd (cc)
-
-module _ (space : Namespace) (settings : MemSettings) (last : LastAnswer) (failures : ℕ) (loaded : List Line) (faults faults' : FaultPlan) (fall : NoneFalls faults faults') (nodes : Datanodes) (s s' : Slab MemLink) (link : ℕ) (slot : Option MemLink) (there : IsSome (write_told (slab.get s link))) (updates : Updates s s' link slot) (told_none : read_told slot ≡ None) (place_none : read_place slot ≡ None) where
+module _ (space : Namespace) (settings : MemSettings) (last : LastAnswer) (failures : ℕ) (loaded : List Line) (faults faults' : FaultPlan) (fall : NoneFalls faults faults') (nodes : Datanodes) (s s' : MemLinks) (link : ℕ) (slot : Option MemWrite) (updates : ChangesWrite s s' link slot) where
   abbrev old : Shown
   old = shown_at space settings last failures loaded faults nodes s
 
@@ -78,7 +69,7 @@ module _ (space : Namespace) (settings : MemSettings) (last : LastAnswer) (failu
 
   quiet_writes : WritesAt link p q
   quiet_writes = record {
-    records = record { names = λ path. refl; table = λ id. refl; active = refl; defaults = refl; reads = slot_stays (λ l. read_place) s s' link (slab.get s link) slot refl updates (place_none ∙ sym (no_read_place (slab.get s link) there)) };
+    records = record { names = λ path. refl; table = λ id. refl; active = refl; defaults = refl; reads = λ l. ap read_place (updates.reads l) };
     held = λ write is node id apart. refl;
     none = λ other apart is. ap (write_place nodes other) (updates.others other apart) ∙ is;
     others = λ write is other place apart now. inl (ap (write_place nodes other) (updates.others other apart) ∙ now, λ i within. refl);
@@ -90,7 +81,7 @@ module _ (space : Namespace) (settings : MemSettings) (last : LastAnswer) (failu
       later = record { counts = falls_beside settings failures faults faults' fall; namenodes = refl; loaded = refl };
       last = refl;
       calls = same_namenodes settings failures faults faults' fall.asks;
-      reads = slot_stays (λ l. read_told) s s' link (slab.get s link) slot refl updates (told_none ∙ sym (no_read (slab.get s link) there));
+      reads = λ l. ap read_told (updates.reads l);
       places = λ l is. quiet_writes.records.reads l;
     };
     others = λ l apart. ap write_told (updates.others l apart);
@@ -105,18 +96,17 @@ module _ (space : Namespace) (settings : MemSettings) (last : LastAnswer) (failu
   ended_write gone place_gone = record {
     writes = quiet_link;
     ended = ap write_told updates.changed ∙ gone;
-    released = (quiet_writes, ap (write_place nodes link) updates.changed ∙ place_gone, λ write is. released (slab.get s link) write is);
+    released = (quiet_writes, ap (write_place nodes link) updates.changed ∙ place_gone, λ write is. released (write_at s link) write is);
   }
     where
-      released : (o : Option MemLink) (write : WritePlace) → write_place nodes link o ≡ Some write → (write' : WritePlace) × MovesOn write write' × (write'.sent ≡ write.sent) × StaysHeld p.held write q.held write'
+      released : (o : Option MemWrite) (write : WritePlace) → write_place nodes link o ≡ Some write → (write' : WritePlace) × MovesOn write write' × (write'.sent ≡ write.sent) × StaysHeld p.held write q.held write'
       released None write is = absurd (cc)
-      released (Some (links.Read read)) write is = absurd (cc)
-      released (Some (links.Write v)) write is =
+      released (Some v) write is =
           let same : place_of nodes link v ≡ write = ap (λ (o : Option WritePlace). unwrap_or o (place_of nodes link v)) is in
           subst (λ (y : WritePlace). (write' : WritePlace) × MovesOn y write' × (write'.sent ≡ y.sent) × StaysHeld p.held y q.held write') same
           (place_of nodes link v, stays (place_of nodes link v) (λ i lt. (omega arith, omega arith)), refl, λ i lt calm holds. holds)
 
-  module _ (v w : MemWrite) (ack : Ack) (d : Outgoing) (was : slab.get s link ≡ Some (links.Write v)) (is_slot : slot ≡ Some (links.Write w)) (same_setup : w.setup ≡ v.setup) (same_base : w.base ≡ v.base) (same_sent : w.sent ≡ v.sent)
+  module _ (v w : MemWrite) (ack : Ack) (d : Outgoing) (was : write_at s link ≡ Some v) (is_slot : slot ≡ Some w) (same_setup : w.setup ≡ v.setup) (same_base : w.base ≡ v.base) (same_sent : w.sent ≡ v.sent)
       (one_came : w.responses.items ≡ v.responses.items ++ ack ∷ []) (due : v.acknowledged < length v.sent.items) (replies : length ack.replies ≡ length v.setup.locs)
       (failed : (i : ℕ) → i < length v.setup.locs → i < length ack.replies → get_or ack.replies i 0 ≢ 0 → Rose (node_faults_of faults (get_or (uuids v.setup.locs) i [])) (node_faults_of faults' (get_or (uuids v.setup.locs) i []))) where
     abbrev sent : List Outgoing
@@ -263,25 +253,22 @@ module _ (link : ℕ) (ack : Ack) (faults faults' : FaultPlan) (v w : MemWrite) 
       at_least zero apart = absurd (apart refl)
       at_least (suc n) apart = omega arith
 
-module _ (space : Namespace) (settings : MemSettings) (last : LastAnswer) (failures : ℕ) (loaded : List Line) (faults faults' : FaultPlan) (nodes : Datanodes) (s s' : Slab MemLink) (link : ℕ) (ack : Ack) where
-  by_bad : (v w : MemWrite) → slab.get s link ≡ Some (links.Write v) → Updates s s' link (Some (links.Write w)) → (h : AckedOn link ack faults faults' v w) → v.acknowledged < length v.sent.items
+module _ (space : Namespace) (settings : MemSettings) (last : LastAnswer) (failures : ℕ) (loaded : List Line) (faults faults' : FaultPlan) (nodes : Datanodes) (s s' : MemLinks) (link : ℕ) (ack : Ack) where
+  by_bad : (v w : MemWrite) → write_at s link ≡ Some v → ChangesWrite s s' link (Some w) → (h : AckedOn link ack faults faults' v w) → v.acknowledged < length v.sent.items
       → (b : Bool) → h.bad ≡ b → Acknowledged (shown_at space settings last failures loaded faults nodes s) link ack (shown_at space settings last failures loaded faults' nodes s')
   by_bad v w was updates h due false is =
       let d : Outgoing = one_of v.sent.items (omega arith) in
       let taken = h.seqno.taken is in
-      acknowledged_due space settings last failures loaded faults faults' (acked_falls link ack faults faults' v w h) nodes s s' link (Some (links.Write w)) (ap is_some (ap write_told was)) updates refl refl
+      acknowledged_due space settings last failures loaded faults faults' (acked_falls link ack faults faults' v w h) nodes s s' link (Some w) updates
       v w ack d was refl h.seqno.setup h.seqno.base h.seqno.sent h.responses due (acked_replies link ack faults faults' v w h) (acked_failed link ack faults faults' v w h) (taken.0 d) taken.1
   by_bad v w was updates h due true is =
       let d : Outgoing = one_of v.sent.items (omega arith) in
       let left = h.seqno.left is in
       let rose : Rose (link_faults_of faults) (link_faults_of faults') = omega (arith, acked_links link ack faults faults' v w h, ap one_if is) in
-      acknowledged_bad space settings last failures loaded faults faults' (acked_falls link ack faults faults' v w h) nodes s s' link (Some (links.Write w)) (ap is_some (ap write_told was)) updates refl refl
+      acknowledged_bad space settings last failures loaded faults faults' (acked_falls link ack faults faults' v w h) nodes s s' link (Some w) updates
       v w ack d was refl h.seqno.setup h.seqno.base h.seqno.sent h.responses due (acked_replies link ack faults faults' v w h) (acked_failed link ack faults faults' v w h) left.0 left.1 rose
 
-  -- an acknowledgement came on a slot
-  pub acknowledged_on : (o o' : MemLink) → slab.get s link ≡ Some o → Updates s s' link (Some o') → OnWrites (AckedOn link ack faults faults') o o' → ((v : MemWrite) → o ≡ links.Write v → v.acknowledged < length v.sent.items)
+  -- an acknowledgement came
+  pub acknowledged_on : (v w : MemWrite) → write_at s link ≡ Some v → ChangesWrite s s' link (Some w) → AckedOn link ack faults faults' v w → v.acknowledged < length v.sent.items
       → Acknowledged (shown_at space settings last failures loaded faults nodes s) link ack (shown_at space settings last failures loaded faults' nodes s')
-  acknowledged_on (links.Write v) (links.Write w) was updates h waits = by_bad v w was updates h (waits v refl) h.bad refl
-  acknowledged_on (links.Write v) (links.Read w) was updates h waits = absurd h
-  acknowledged_on (links.Read v) (links.Read w) was updates h waits = absurd h
-  acknowledged_on (links.Read v) (links.Write w) was updates h waits = absurd h
+  acknowledged_on v w was updates h due = by_bad v w was updates h due h.bad refl

@@ -6,8 +6,6 @@ use Rattle.std.proofs.lemmas.List.Sums.{sum_by-cons}
 use Rattle.std.proofs.lemmas.Slice.Eq.{bytes_eq-Decides}
 use Rattle.std.specs.Result.{IfOk, OnErr}
 use Rattle.std.specs.Str.{bytes_eq}
-use Rattle.slab.specs.Slab as slab
-use Rattle.slab.specs.Slab.{Slab, with_value}
 use Rattle.hdfs_wire.specs.declared.ack.Ack.{Ack}
 use Rattle.hdfs_wire.specs.declared.values.NoMemory.{NoMemory}
 use Rattle.hdfs_wire.specs.Outgoing.{Outgoing}
@@ -28,20 +26,17 @@ use Rattle.hdfs_mem_faults.specs.Series.{Series, SetUps, AsksOf, acks_of, kind_o
 use Rattle.hdfs_mem_faults.proofs.Following.{ack_follows, counts_follows, end_follows, next_kind_follows}
 use Rattle.hdfs_mem_datanodes.specs.declared.datanodes.Datanodes.{Datanodes}
 use Rattle.hdfs_mem_cluster.specs.declared.mem_cluster.MemCluster.{MemCluster}
-use Rattle.hdfs_mem_cluster.specs.declared.mem_link.MemLink.{MemLink}
-use Rattle.hdfs_mem_cluster.specs.declared.mem_link.MemLink.TheVariants as links
 use Rattle.hdfs_mem_cluster.specs.declared.write_link.MemWrite.{MemWrite}
 use Rattle.hdfs_mem_cluster.specs.Counting.{AsksAck, AsksSend, AsksSetUp, CanCount, CountsNothing, first_of, has_failed_set_up}
 use Rattle.hdfs_mem_cluster.specs.SettingUp.{blamed}
 use Rattle.hdfs_mem_cluster.specs.Failures.{failure_of, is_broken, is_counted, planned_failure}
-use Rattle.hdfs_mem_cluster.specs.Links.{write_told, OnWrites, AckedOn, AreEarlier, SendsOn, among, first_uuid}
+use Rattle.hdfs_mem_cluster.specs.Links.{write_at, write_told, AckedOn, ChangesWrite, SendsOn, among, first_uuid}
 use Rattle.hdfs_mem_cluster.specs.Lines.{line_of}
 use Rattle.hdfs_mem_datanodes.specs.Nodes.{SameNodes, node_at}
 use Rattle.hdfs_mem_cluster.specs.Telling.{TellsAll, times}
 use Rattle.hdfs_mem_cluster.specs.Writes.{told_of}
 use Rattle.hdfs_mem_cluster.proofs.Acknowledging.{acked_falls, acked_links, acked_nodes, acked_replies, one_of, rest_due}
 use Rattle.hdfs_mem_cluster.proofs.Counting.{NoneFalls, SameCalls, at_once, calls_node, calls_nothing, falls_counts, falls_same, nodes_stay, one_more}
-use Rattle.hdfs_mem_cluster.proofs.Earlier.{written_earlier}
 
 -- what a packet that was sent counts, whether it broke or not
 pub sends_counts : (link : ℕ) (packet : Outgoing) (broke : Bool) (nodes nodes' : Datanodes) (faults faults' : FaultPlan) (v w : MemWrite)
@@ -50,16 +45,13 @@ sends_counts link packet true nodes nodes' faults faults' v w h = h.1
 sends_counts link packet false nodes nodes' faults faults' v w h = h.1
 
 -- what a link that was sent on asks for
-pub asks_send : (m m' : MemCluster) (link : ℕ) (packet : Outgoing) (broke : Bool) (result : Result (Unit {0}) LinkFault) (o o' : MemLink) → slab.get m.links link ≡ Some o
-    → OnWrites (λ v w. SendsOn link packet broke (among m.nodes m.faults v) (among m'.nodes m'.faults w)) o o' → SameNodes m.nodes m'.nodes → is_counted result ≡ true → broke ≡ is_broken result
-    → IfSome (write_told (slab.get m.links link)) (λ write. AsksSend m write result m')
-asks_send m m' link packet broke result (links.Write v) (links.Write w) was h rest counted is =
+pub asks_send : (m m' : MemCluster) (link : ℕ) (packet : Outgoing) (broke : Bool) (result : Result (Unit {0}) LinkFault) (v w : MemWrite) → write_at m.links link ≡ Some v
+    → SendsOn link packet broke (among m.nodes m.faults v) (among m'.nodes m'.faults w) → SameNodes m.nodes m'.nodes → is_counted result ≡ true → broke ≡ is_broken result
+    → IfSome (write_told (write_at m.links link)) (λ write. AsksSend m write result m')
+asks_send m m' link packet broke result v w was h rest counted is =
     subst (λ (o : Option OpenWrite). IfSome o (λ write. AsksSend m write result m')) (sym (ap write_told was))
     (calls_node m m' calls.Send (first_uuid v) (is_counted result) (is_broken result) rest
     (subst (λ (b : Bool). Counts m.faults (sends_to (first_uuid v)) b m'.faults) is (sends_counts link packet broke m.nodes m'.nodes m.faults m'.faults v w h)) counted)
-asks_send m m' link packet broke result (links.Write v) (links.Read w) was h rest counted is = absurd h
-asks_send m m' link packet broke result (links.Read v) (links.Read w) was h rest counted is = absurd h
-asks_send m m' link packet broke result (links.Read v) (links.Write w) was h rest counted is = absurd h
 
 -- the same where there was no memory
 pub asks_no_send : (m m' : MemCluster) (link : ℕ) (o : Option OpenWrite) (result : Result (Unit {0}) LinkFault) → SameNodes m.nodes m'.nodes → m'.faults ≡ m.faults
@@ -125,7 +117,7 @@ module _ (m m' : MemCluster) (setup : Setup) (mid : FaultPlan) (link : ℕ) (kin
   failed_at_once : (result : Result ℕ LinkFault) → is_counted result ≡ true → failure_of result ≡ planned_failure kind → has_failed_set_up result ≡ is_at_once kind
   failed_at_once result counted fails = ap (λ (b : Bool). b && is_some (failure_of result)) counted ∙ ap is_some fails ∙ at_once kind
 
-  pub asks_set_up : (result : Result ℕ LinkFault) → is_counted result ≡ true → failure_of result ≡ planned_failure kind → IfOk result (λ l. l ≡ link) → write_told (slab.get m.links link) ≡ None → AsksSetUp m setup result m'
+  pub asks_set_up : (result : Result ℕ LinkFault) → is_counted result ≡ true → failure_of result ≡ planned_failure kind → IfOk result (λ l. l ≡ link) → write_told (write_at m.links link) ≡ None → AsksSetUp m setup result m'
   asks_set_up result counted fails opened vacant = record {
     call = record {
       own = λ can.
@@ -138,7 +130,7 @@ module _ (m m' : MemCluster) (setup : Setup) (mid : FaultPlan) (link : ℕ) (kin
     };
     exact = λ can sure. fails ∙ ap planned_failure (kind_is can.room);
     bad = opened_bad result opened;
-    others = λ l shown. other_bad l (λ same. false≢true (sym (ap is_some (ap (λ (k : ℕ). write_told (slab.get m.links k)) same ∙ vacant)) ∙ shown));
+    others = λ l shown. other_bad l (λ same. false≢true (sym (ap is_some (ap (λ (k : ℕ). write_told (write_at m.links k)) same ∙ vacant)) ∙ shown));
     links = sets.faults ∙ ap (λ (n : ℕ). n + one_if (is_at_once kind && is_none (blamed setup))) forgets.faults
         ∙ ap (λ (b : Bool). link_faults_of m.faults + one_if (b && is_none (blamed setup))) (sym (failed_at_once result counted fails));
     nodes = λ d. sets.nodes d ∙ ap (λ (n : ℕ). n + one_if (is_at_once kind && is_first (blamed setup) d)) (forgets.nodes d)
@@ -147,7 +139,7 @@ module _ (m m' : MemCluster) (setup : Setup) (mid : FaultPlan) (link : ℕ) (kin
 
 -- it was not, for want of memory
 pub asks_no_set_up : (m m' : MemCluster) (setup : Setup) → SameNodes m.nodes m'.nodes → ((s : Series) → calls_of m'.faults s ≡ calls_of m.faults s) → ((d : List ℕ) → has_node m'.faults d ≡ has_node m.faults d)
-    → ((l : ℕ) → IsSome (write_told (slab.get m.links l)) → is_bad m'.faults l ≡ is_bad m.faults l) → link_faults_of m'.faults ≡ link_faults_of m.faults → ((d : List ℕ) → node_faults_of m'.faults d ≡ node_faults_of m.faults d)
+    → ((l : ℕ) → IsSome (write_told (write_at m.links l)) → is_bad m'.faults l ≡ is_bad m.faults l) → link_faults_of m'.faults ≡ link_faults_of m.faults → ((d : List ℕ) → node_faults_of m'.faults d ≡ node_faults_of m.faults d)
     → AsksSetUp m setup (Err link_faults.NoMemory) m'
 asks_no_set_up m m' setup rest calls there bad links nodes = record {
   call = record { own = λ can. omega (arith, calls SetUps); others = λ s apart. calls s; there = nodes_stay m m' rest there };
@@ -159,11 +151,11 @@ asks_no_set_up m m' setup rest calls there bad links nodes = record {
 }
 
 -- nor where memory was wanted once the link was forgotten
-pub asks_forgotten : (m m' : MemCluster) (setup : Setup) (mid : FaultPlan) (link : ℕ) → SameNodes m.nodes m'.nodes → Forgets m.faults link mid → SamePlan mid m'.faults → write_told (slab.get m.links link) ≡ None → AsksSetUp m setup (Err link_faults.NoMemory) m'
+pub asks_forgotten : (m m' : MemCluster) (setup : Setup) (mid : FaultPlan) (link : ℕ) → SameNodes m.nodes m'.nodes → Forgets m.faults link mid → SamePlan mid m'.faults → write_told (write_at m.links link) ≡ None → AsksSetUp m setup (Err link_faults.NoMemory) m'
 asks_forgotten m m' setup mid link rest forgets same vacant =
     asks_no_set_up m m' setup rest (λ s. same.calls s ∙ forgets.calls s) (λ d. same.plans.there d ∙ forgets.plans.there d)
     (λ l shown. same.links.bad l ∙ still_bad (is_bad m.faults l) (eqb link l) (is_bad mid l) (forgets.left l)
-    (other_link link l (λ equal. false≢true (sym (ap is_some (ap (λ (k : ℕ). write_told (slab.get m.links k)) equal ∙ vacant)) ∙ shown))))
+    (other_link link l (λ equal. false≢true (sym (ap is_some (ap (λ (k : ℕ). write_told (write_at m.links k)) equal ∙ vacant)) ∙ shown))))
     (same.links.faults ∙ forgets.faults) (λ d. same.nodes d ∙ forgets.nodes d)
 
 -- among the first so many datanodes is the last of them
@@ -229,73 +221,43 @@ module _ (m m' : MemCluster) (link : ℕ) (ack : Ack) (v w : MemWrite) (h : Acke
     there = nodes_stay m m' rest (λ d. h.takes.plans.there d ∙ h.tells.there d);
   }
 
--- the same of a slot
-pub asks_ack_on : (m m' : MemCluster) (link : ℕ) (ack : Ack) (o o' : MemLink) → slab.get m.links link ≡ Some o → OnWrites (AckedOn link ack m.faults m'.faults) o o' → SameNodes m.nodes m'.nodes
-    → ((v : MemWrite) → o ≡ links.Write v → v.acknowledged < length v.sent.items) → IfSome (write_told (slab.get m.links link)) (λ write. AsksAck m link write ack m')
-asks_ack_on m m' link ack (links.Write v) (links.Write w) was h rest waits =
-    subst (λ (o : Option OpenWrite). IfSome o (λ write. AsksAck m link write ack m')) (sym (ap write_told was)) (asks_ack m m' link ack v w h rest (waits v refl))
-asks_ack_on m m' link ack (links.Write v) (links.Read w) was h rest waits = absurd h
-asks_ack_on m m' link ack (links.Read v) (links.Read w) was h rest waits = absurd h
-asks_ack_on m m' link ack (links.Read v) (links.Write w) was h rest waits = absurd h
+-- the same of what is told of the link
+pub asks_ack_on : (m m' : MemCluster) (link : ℕ) (ack : Ack) (v w : MemWrite) → write_at m.links link ≡ Some v → AckedOn link ack m.faults m'.faults v w → SameNodes m.nodes m'.nodes
+    → v.acknowledged < length v.sent.items → IfSome (write_told (write_at m.links link)) (λ write. AsksAck m link write ack m')
+asks_ack_on m m' link ack v w was h rest due =
+    subst (λ (o : Option OpenWrite). IfSome o (λ write. AsksAck m link write ack m')) (sym (ap write_told was)) (asks_ack m m' link ack v w h rest due)
 
 -- a link was ended
-pub counts_end : (m m' : MemCluster) (link : ℕ) → Forgets m.faults link m'.faults → slab.Updates m.links m'.links link None → m'.nodes ≡ m.nodes → SameCalls m m' → CountsNothing m m'
+pub counts_end : (m m' : MemCluster) (link : ℕ) → Forgets m.faults link m'.faults → ChangesWrite m.links m'.links link None → m'.nodes ≡ m.nodes → SameCalls m m' → CountsNothing m m'
 counts_end m m' link forgets updates same asked = record {
   counts = record { asks = λ i. forgets.calls (AsksOf i); calls = asked; links = forgets.faults; nodes = forgets.nodes };
   calls = forgets.calls;
   bad = λ l shown. still_bad (is_bad m.faults l) (eqb link l) (is_bad m'.faults l) (forgets.left l)
-      (other_link link l (λ equal. false≢true (sym (ap is_some (ap (λ (k : ℕ). write_told (slab.get m'.links k)) equal ∙ ap write_told updates.changed)) ∙ shown)));
+      (other_link link l (λ equal. false≢true (sym (ap is_some (ap (λ (k : ℕ). write_told (write_at m'.links k)) equal ∙ ap write_told updates.changed)) ∙ shown)));
   there = λ d has. record { there = ap (λ (ns : Datanodes). is_some (node_at ns d)) same ∙ has.there; counted = forgets.plans.there d ∙ has.counted };
 }
 
 -- a plan goes on following where a packet was sent
-pub sends_follow : (link : ℕ) (packet : Outgoing) (broke : Bool) (nodes nodes' : Datanodes) (faults faults' : FaultPlan) (loaded : List Line) (o o' : MemLink) → OnWrites (λ v w. SendsOn link packet broke (among nodes faults v) (among nodes' faults' w)) o o' → Follows faults loaded → Follows faults' loaded
-sends_follow link packet broke nodes nodes' faults faults' loaded (links.Write v) (links.Write w) h was =
-    counts_follows faults faults' loaded (sends_to (first_uuid v)) broke (sends_counts link packet broke nodes nodes' faults faults' v w h) was
-sends_follow link packet broke nodes nodes' faults faults' loaded (links.Write v) (links.Read w) h was = absurd h
-sends_follow link packet broke nodes nodes' faults faults' loaded (links.Read v) (links.Read w) h was = absurd h
-sends_follow link packet broke nodes nodes' faults faults' loaded (links.Read v) (links.Write w) h was = absurd h
+pub sends_follow_on : (P : Type 0) (link : ℕ) (packet : Outgoing) (result : Result Bool NoMemory) (nodes nodes' : Datanodes) (faults faults' : FaultPlan) (loaded : List Line) (v w : MemWrite)
+    → IfOk result (λ broke. SendsOn link packet broke (among nodes faults v) (among nodes' faults' w)) → OnErr result (P × (faults' ≡ faults)) → Follows faults loaded → Follows faults' loaded
+sends_follow_on P link packet (Ok broke) nodes nodes' faults faults' loaded v w ok err was =
+    counts_follows faults faults' loaded (sends_to (first_uuid v)) broke (sends_counts link packet broke nodes nodes' faults faults' v w ok) was
+sends_follow_on P link packet (Err e) nodes nodes' faults faults' loaded v w ok err was = subst (λ (p : FaultPlan). Follows p loaded) (sym err.1) was
 
 -- and where an acknowledgement came
-pub acks_follow : (link : ℕ) (ack : Ack) (faults faults' : FaultPlan) (loaded : List Line) (o o' : MemLink) → OnWrites (AckedOn link ack faults faults') o o' → Follows faults loaded → Follows faults' loaded
-acks_follow link ack faults faults' loaded (links.Write v) (links.Write w) h was = ack_follows h.told faults' loaded link h.bad h.takes (h.goes_on loaded was)
-acks_follow link ack faults faults' loaded (links.Write v) (links.Read w) h was = absurd h
-acks_follow link ack faults faults' loaded (links.Read v) (links.Read w) h was = absurd h
-acks_follow link ack faults faults' loaded (links.Read v) (links.Write w) h was = absurd h
-
--- the same of the results of calls
-pub sends_follow_on : (P : Type 0) (link : ℕ) (packet : Outgoing) (result : Result Bool NoMemory) (nodes nodes' : Datanodes) (faults faults' : FaultPlan) (loaded : List Line) (o o' : MemLink)
-    → IfOk result (λ broke. OnWrites (λ v w. SendsOn link packet broke (among nodes faults v) (among nodes' faults' w)) o o') → OnErr result (P × (faults' ≡ faults)) → Follows faults loaded → Follows faults' loaded
-sends_follow_on P link packet (Ok broke) nodes nodes' faults faults' loaded o o' ok err was = sends_follow link packet broke nodes nodes' faults faults' loaded o o' ok was
-sends_follow_on P link packet (Err e) nodes nodes' faults faults' loaded o o' ok err was = subst (λ (p : FaultPlan). Follows p loaded) (sym err.1) was
-
-pub acks_follow_on : (P : Type 0) (link : ℕ) (result : Result Ack NoMemory) (faults faults' : FaultPlan) (loaded : List Line) (o o' : MemLink)
-    → IfOk result (λ ack. OnWrites (AckedOn link ack faults faults') o o') → OnErr result (P × (faults' ≡ faults)) → Follows faults loaded → Follows faults' loaded
-acks_follow_on P link (Ok ack) faults faults' loaded o o' ok err was = acks_follow link ack faults faults' loaded o o' ok was
-acks_follow_on P link (Err e) faults faults' loaded o o' ok err was = subst (λ (p : FaultPlan). Follows p loaded) (sym err.1) was
+pub acks_follow_on : (P : Type 0) (link : ℕ) (result : Result Ack NoMemory) (faults faults' : FaultPlan) (loaded : List Line) (v w : MemWrite)
+    → IfOk result (λ ack. AckedOn link ack faults faults' v w) → OnErr result (P × (faults' ≡ faults)) → Follows faults loaded → Follows faults' loaded
+acks_follow_on P link (Ok ack) faults faults' loaded v w ok err was = ack_follows ok.told faults' loaded link ok.bad ok.takes (ok.goes_on loaded was)
+acks_follow_on P link (Err e) faults faults' loaded v w ok err was = subst (λ (p : FaultPlan). Follows p loaded) (sym err.1) was
 
 -- no count falls where a packet was sent
-sends_fall : (link : ℕ) (packet : Outgoing) (broke : Bool) (nodes nodes' : Datanodes) (faults faults' : FaultPlan) (o o' : MemLink) → OnWrites (λ v w. SendsOn link packet broke (among nodes faults v) (among nodes' faults' w)) o o' → NoneFalls faults faults'
-sends_fall link packet broke nodes nodes' faults faults' (links.Write v) (links.Write w) h = falls_counts faults faults' (sends_to (first_uuid v)) broke (sends_counts link packet broke nodes nodes' faults faults' v w h)
-sends_fall link packet broke nodes nodes' faults faults' (links.Write v) (links.Read w) h = absurd h
-sends_fall link packet broke nodes nodes' faults faults' (links.Read v) (links.Read w) h = absurd h
-sends_fall link packet broke nodes nodes' faults faults' (links.Read v) (links.Write w) h = absurd h
+pub sends_fall : (P : Type 0) (link : ℕ) (packet : Outgoing) (result : Result Bool NoMemory) (nodes nodes' : Datanodes) (faults faults' : FaultPlan) (v w : MemWrite)
+    → IfOk result (λ broke. SendsOn link packet broke (among nodes faults v) (among nodes' faults' w)) → OnErr result (P × (faults' ≡ faults)) → NoneFalls faults faults'
+sends_fall P link packet (Ok broke) nodes nodes' faults faults' v w ok err = falls_counts faults faults' (sends_to (first_uuid v)) broke (sends_counts link packet broke nodes nodes' faults faults' v w ok)
+sends_fall P link packet (Err e) nodes nodes' faults faults' v w ok err = falls_same faults faults' err.1
 
-acks_fall : (link : ℕ) (ack : Ack) (faults faults' : FaultPlan) (o o' : MemLink) → OnWrites (AckedOn link ack faults faults') o o' → NoneFalls faults faults'
-acks_fall link ack faults faults' (links.Write v) (links.Write w) h = acked_falls link ack faults faults' v w h
-acks_fall link ack faults faults' (links.Write v) (links.Read w) h = absurd h
-acks_fall link ack faults faults' (links.Read v) (links.Read w) h = absurd h
-acks_fall link ack faults faults' (links.Read v) (links.Write w) h = absurd h
-
--- and the reads stay opened earlier
-pub sends_earlier : (P : MemWrite → MemWrite → Type 0) (s : Slab MemLink) (link : ℕ) (packet : Outgoing) (result : Result Bool NoMemory) (nodes nodes' : Datanodes) (faults faults' : FaultPlan) (o o' : MemLink)
-    → IfOk result (λ broke. OnWrites (λ v w. SendsOn link packet broke (among nodes faults v) (among nodes' faults' w)) o o') → OnErr result (OnWrites P o o' × (faults' ≡ faults)) → slab.get s link ≡ Some o
-    → AreEarlier s faults → AreEarlier (with_value s link o') faults'
-sends_earlier P s link packet (Ok broke) nodes nodes' faults faults' o o' ok err was =
-    written_earlier (λ v w. SendsOn link packet broke (among nodes faults v) (among nodes' faults' w)) s faults faults' link o o' was ok (sends_fall link packet broke nodes nodes' faults faults' o o' ok)
-sends_earlier P s link packet (Err e) nodes nodes' faults faults' o o' ok err was = written_earlier P s faults faults' link o o' was err.0 (falls_same faults faults' err.1)
-
-pub acks_earlier : (P : MemWrite → MemWrite → Type 0) (s : Slab MemLink) (link : ℕ) (result : Result Ack NoMemory) (faults faults' : FaultPlan) (o o' : MemLink)
-    → IfOk result (λ ack. OnWrites (AckedOn link ack faults faults') o o') → OnErr result (OnWrites P o o' × (faults' ≡ faults)) → slab.get s link ≡ Some o → AreEarlier s faults → AreEarlier (with_value s link o') faults'
-acks_earlier P s link (Ok ack) faults faults' o o' ok err was = written_earlier (AckedOn link ack faults faults') s faults faults' link o o' was ok (acks_fall link ack faults faults' o o' ok)
-acks_earlier P s link (Err e) faults faults' o o' ok err was = written_earlier P s faults faults' link o o' was err.0 (falls_same faults faults' err.1)
+-- nor where an acknowledgement came
+pub acks_fall : (P : Type 0) (link : ℕ) (result : Result Ack NoMemory) (faults faults' : FaultPlan) (v w : MemWrite)
+    → IfOk result (λ ack. AckedOn link ack faults faults' v w) → OnErr result (P × (faults' ≡ faults)) → NoneFalls faults faults'
+acks_fall P link (Ok ack) faults faults' v w ok err = acked_falls link ack faults faults' v w ok
+acks_fall P link (Err e) faults faults' v w ok err = falls_same faults faults' err.1

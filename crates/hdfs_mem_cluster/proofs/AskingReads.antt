@@ -2,7 +2,6 @@
 use Rattle.std.proofs.Common.{◌≡◌, ◌≢◌, ℕ, ◌+◌, ◌^◌, nat_lt, cond, Bool, true, false, ◌&&◌, List, [], ◌∷◌, map, Option, Some, None, is_some, IfSome, Result, Ok, Err, refl, sym, ◌∙◌, ap, subst, unwrap_or}
 use Rattle.std.proofs.lemmas.Bool.{false≢true}
 use Rattle.std.specs.Option.{option_or}
-use Rattle.slab.specs.Slab as slab
 use Rattle.hdfs_wire.specs.declared.checksums.ChecksumInfo.{ChecksumInfo}
 use Rattle.hdfs_wire.specs.declared.read_packet.ReadPacket.{ReadPacket}
 use Rattle.hdfs_cluster.specs.declared.asks.LinkFault.{LinkFault}
@@ -23,14 +22,12 @@ use Rattle.hdfs_mem_faults.specs.Plans.{Counts, calls_of, fails_at, packet_kind}
 use Rattle.hdfs_mem_faults.specs.Series.{is_fault_at, opens_of, packet_kind_of, packet_kind_of_line, reads_of}
 use Rattle.hdfs_mem_faults.proofs.Following.{counts_follows, next_packet_follows, read_fails}
 use Rattle.hdfs_mem_cluster.specs.declared.mem_cluster.MemCluster.{MemCluster}
-use Rattle.hdfs_mem_cluster.specs.declared.mem_link.MemLink.{MemLink}
-use Rattle.hdfs_mem_cluster.specs.declared.mem_link.MemLink.TheVariants as links
 use Rattle.hdfs_mem_cluster.specs.declared.read_link.MemRead.{MemRead}
 use Rattle.hdfs_mem_cluster.specs.Coming.{ComesTo, IsGiven}
 use Rattle.hdfs_mem_cluster.specs.Counting.{AsksPacket}
 use Rattle.hdfs_mem_cluster.specs.Failures.{is_counted}
 use Rattle.hdfs_mem_cluster.specs.Lines.{line_of}
-use Rattle.hdfs_mem_cluster.specs.Links.{CountsPacket, GivesOn, NeverRefuses, OnReads, next_of, node_of, read_place, read_told}
+use Rattle.hdfs_mem_cluster.specs.Links.{CountsPacket, GivesOn, NeverRefuses, next_of, node_of, read_at, read_place, read_told}
 use Rattle.hdfs_mem_cluster.proofs.Counting.{calls_node, calls_nothing}
 use Rattle.hdfs_mem_cluster.proofs.Slices.{comes_given}
 use Rattle.hdfs_mem_datanodes.specs.Nodes.{SameNodes}
@@ -95,18 +92,11 @@ counted_opening old new u d said fails b same says is counts =
 
 -- ---- what a packet that was asked for counts
 
--- it was asked of a read, and a read is left
-pub both_reads : (P : MemRead → MemRead → Type 0) (o o' : MemLink) → OnReads P o o' → (v : MemRead) × (w : MemRead) × (o ≡ links.Read v) × (o' ≡ links.Read w) × P v w
-both_reads P (links.Read v) (links.Read w) h = (v, w, refl, refl, h)
-both_reads P (links.Read v) (links.Write w) h = absurd h
-both_reads P (links.Write v) (links.Write w) h = absurd h
-both_reads P (links.Write v) (links.Read w) h = absurd h
-
-module _ (m m' : MemCluster) (link : ℕ) (v w : MemRead) (was : slab.get m.links link ≡ Some (links.Read v)) (rest : SameNodes m.nodes m'.nodes) where
+module _ (m m' : MemCluster) (link : ℕ) (v w : MemRead) (was : read_at m.links link ≡ Some v) (rest : SameNodes m.nodes m'.nodes) where
   abbrev kind : Option ReadKind
   kind = next_of m.faults (node_of v)
 
-  place_is : (read : ReadPlace) → read_place (slab.get m.links link) ≡ Some read → v.place ≡ read
+  place_is : (read : ReadPlace) → read_place (read_at m.links link) ≡ Some read → v.place ≡ read
   place_is read is = ap (λ (o : Option ReadPlace). unwrap_or o v.place) (sym (ap read_place was) ∙ is)
 
   -- there was memory
@@ -129,7 +119,7 @@ module _ (m m' : MemCluster) (link : ℕ) (v w : MemRead) (was : slab.get m.link
   asks_packet (Err link_faults.Broken) h = counted (Err link_faults.Broken) refl h.2 h.1
   asks_packet (Err link_faults.Refused) h = absurd h
 
-  pub asks_told : (result : Result ReadPacket LinkFault) → GivesOn m.faults m'.faults v w result → IfSome (read_told (slab.get m.links link)) (λ told. AsksPacket m link told result m')
+  pub asks_told : (result : Result ReadPacket LinkFault) → GivesOn m.faults m'.faults v w result → IfSome (read_told (read_at m.links link)) (λ told. AsksPacket m link told result m')
   asks_told result h = subst (λ (o : Option OpenRead). IfSome o (λ told. AsksPacket m link told result m')) (sym (ap read_told was)) (asks_packet result h)
 
 -- a plan goes on following

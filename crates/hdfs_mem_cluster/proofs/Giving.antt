@@ -1,9 +1,6 @@
 -- What an opening and a packet of a read do to what a cluster shows.
 use Rattle.std.proofs.Common.{◌≡◌, ◌≢◌, ◌⊎◌, inr, ℕ, ◌+◌, ◌≤◌, Bool, true, List, length, Option, Some, None, is_some, IfSome, Result, Ok, Err, refl, sym, ◌∙◌, ap, subst, unwrap_or, arith}
-use Rattle.std.specs.Option.{IsSome}
 use Rattle.std.specs.Result.{IfOk, IfErr}
-use Rattle.slab.specs.Slab as slab
-use Rattle.slab.specs.Slab.{Slab, Updates}
 use Rattle.hdfs_wire.specs.Checksums.{IsChecked}
 use Rattle.hdfs_wire.specs.declared.checksums.ChecksumInfo.{ChecksumInfo}
 use Rattle.hdfs_wire.specs.declared.read_packet.ReadPacket.{ReadPacket}
@@ -28,23 +25,22 @@ use Rattle.hdfs_cluster.specs.Shown.{Shown, Opened, NotOpened, Given, NotGiven, 
 use Rattle.hdfs_mem_namenode.specs.declared.namespace.Namespace.{Namespace}
 use Rattle.hdfs_mem_datanodes.specs.declared.datanodes.Datanodes.{Datanodes}
 use Rattle.hdfs_mem_cluster.specs.declared.read_link.MemRead.{MemRead}
-use Rattle.hdfs_mem_cluster.specs.declared.mem_link.MemLink.{MemLink}
-use Rattle.hdfs_mem_cluster.specs.declared.mem_link.MemLink.TheVariants as links
-use Rattle.hdfs_mem_cluster.specs.Links.{read_told, read_place, write_told, write_place, AreEarlier, GaveOn, GivesOn, IsEarlier, SameRead, next_of, node_of}
+use Rattle.hdfs_mem_cluster.specs.declared.mem_links.MemLinks.{MemLinks}
+use Rattle.hdfs_mem_cluster.specs.Links.{read_at, read_told, read_place, write_at, write_told, write_place, AreEarlier, ChangesRead, GaveOn, GivesOn, IsEarlier, SameRead, next_of, node_of}
 use Rattle.hdfs_mem_cluster.specs.MemShown.{picture_at}
 use Rattle.hdfs_mem_cluster.specs.Slices.{crc32c_for, place_for, told_for}
 use Rattle.hdfs_mem_datanodes.specs.Nodes.{held_in, SameHeld}
 use Rattle.hdfs_mem_datanodes.proofs.Pipelines.{same_held_refl}
 use Rattle.hdfs_mem_cluster.proofs.Counting.{NoneFalls, falls_beside, falls_counts, falls_refl, falls_same, own_count, rose_counts}
 use Rattle.hdfs_mem_cluster.proofs.Earlier.{changed_earlier, later_earlier, told_earlier}
-use Rattle.hdfs_mem_cluster.proofs.Places.{slot_stays, no_write, no_write_place}
+use Rattle.hdfs_mem_cluster.proofs.Places.{link_stays}
 use Rattle.hdfs_mem_cluster.proofs.AskingReads.{counted_packet}
 use Rattle.hdfs_mem_cluster.proofs.Slices.{comes_checked, comes_slice, comes_told}
 use Rattle.hdfs_mem_cluster.proofs.Stills.{shown_at, still_later, still_files, still_place, links_from_read, not_given}
 
 -- a read was opened
-pub opened_read : (space : Namespace) (settings : MemSettings) (last : LastAnswer) (failures : ℕ) (loaded : List Line) (faults faults' : FaultPlan) (nodes nodes' : Datanodes) (s s' : Slab MemLink) (link : ℕ) (v : MemRead) (ask : ReadAsk)
-    → NoneFalls faults faults' → SameHeld nodes nodes' → slab.get s link ≡ None → Updates s s' link (Some (links.Read v)) → v.told ≡ told_for ask (node_faults_of faults ask.node.datanode_uuid) v.chunk
+pub opened_read : (space : Namespace) (settings : MemSettings) (last : LastAnswer) (failures : ℕ) (loaded : List Line) (faults faults' : FaultPlan) (nodes nodes' : Datanodes) (s s' : MemLinks) (link : ℕ) (v : MemRead) (ask : ReadAsk)
+    → NoneFalls faults faults' → SameHeld nodes nodes' → read_at s link ≡ None → ChangesRead s s' link (Some v) → v.told ≡ told_for ask (node_faults_of faults ask.node.datanode_uuid) v.chunk
     → (base : List ℕ) → v.place ≡ place_for ask base v.place.place → base ≡ held_in nodes ask.node.datanode_uuid ask.block.block_id → v.place.place ≤ ask.offset
     → Opened (shown_at space settings last failures loaded faults nodes s) ask link (shown_at space settings last failures loaded faults' nodes' s')
 opened_read space settings last failures loaded faults faults' nodes nodes' s s' link v ask fall held vacant updates told base is holds behind =
@@ -53,24 +49,24 @@ opened_read space settings last failures loaded faults faults' nodes nodes' s s'
       files = still_files space settings last failures loaded faults faults' fall nodes nodes' s s' held;
       active = refl;
       others = λ l apart. ap read_place (updates.others l apart);
-      writes = λ l. still_place space settings last failures loaded faults faults' fall nodes nodes' s s' held l (slab.get s' l) ∙ slot_stays (write_place nodes) s s' link None (Some (links.Read v)) vacant updates refl l;
+      writes = λ l. still_place space settings last failures loaded faults faults' fall nodes nodes' s s' held l (write_at s' l) ∙ ap (write_place nodes l) (updates.writes l);
     } in
     record {
       reading = record {
         later = still_later space settings last failures loaded faults faults' fall nodes nodes' s s';
         last = refl;
         others = λ l apart. ap read_told (updates.others l apart);
-        writes = slot_stays (λ l. write_told) s s' link None (Some (links.Read v)) vacant updates refl;
+        writes = λ l. ap write_told (updates.writes l);
         picture = rest;
       };
-      fresh = record { read = ap read_told vacant; write = ap write_told vacant };
+      fresh = ap read_told vacant;
       checksums = Some (crc32c_for v.chunk);
       opened = ap read_told updates.changed ∙ ap Some told;
       begins = record { rest = rest; place = v.place.place; behind = behind; at = ap read_place updates.changed ∙ ap Some is ∙ ap (λ (bytes : List ℕ). Some (place_for ask bytes v.place.place)) holds };
     }
 
 -- one was refused
-pub refused_read : (space : Namespace) (settings : MemSettings) (last : LastAnswer) (failures : ℕ) (loaded : List Line) (faults faults' : FaultPlan) (nodes : Datanodes) (s : Slab MemLink) (kept : Option ℕ) (ask : ReadAsk) → Counts faults (opens_of ask.node.datanode_uuid) true faults'
+pub refused_read : (space : Namespace) (settings : MemSettings) (last : LastAnswer) (failures : ℕ) (loaded : List Line) (faults faults' : FaultPlan) (nodes : Datanodes) (s : MemLinks) (kept : Option ℕ) (ask : ReadAsk) → Counts faults (opens_of ask.node.datanode_uuid) true faults'
     → NotOpened (shown_at space settings last failures loaded faults nodes s) kept ask link_faults.Refused (shown_at space settings last failures loaded faults' nodes s)
 refused_read space settings last failures loaded faults faults' nodes s kept ask counts = record {
   later = record { counts = falls_beside settings failures faults faults' (falls_counts faults faults' (opens_of ask.node.datanode_uuid) true counts); namenodes = refl; loaded = refl };
@@ -82,30 +78,30 @@ refused_read space settings last failures loaded faults faults' nodes s kept ask
 }
 
 -- a read was ended
-pub ended_read : (space : Namespace) (settings : MemSettings) (last : LastAnswer) (failures : ℕ) (loaded : List Line) (faults : FaultPlan) (nodes : Datanodes) (s s' : Slab MemLink) (link : ℕ)
-    → IsSome (read_told (slab.get s link)) → Updates s s' link None → Ended (shown_at space settings last failures loaded faults nodes s) link (shown_at space settings last failures loaded faults nodes s')
-ended_read space settings last failures loaded faults nodes s s' link there updates =
+pub ended_read : (space : Namespace) (settings : MemSettings) (last : LastAnswer) (failures : ℕ) (loaded : List Line) (faults : FaultPlan) (nodes : Datanodes) (s s' : MemLinks) (link : ℕ)
+    → ChangesRead s s' link None → Ended (shown_at space settings last failures loaded faults nodes s) link (shown_at space settings last failures loaded faults nodes s')
+ended_read space settings last failures loaded faults nodes s s' link updates =
     let rest : ReadsAt link (picture_at space nodes settings s) (picture_at space nodes settings s') =
     record {
       files = record { names = λ path. refl; table = λ id. refl; held = λ node id. refl; defaults = refl };
       active = refl;
       others = λ l apart. ap read_place (updates.others l apart);
-      writes = slot_stays (write_place nodes) s s' link (slab.get s link) None refl updates (sym (no_write_place nodes link (slab.get s link) there));
+      writes = λ l. ap (write_place nodes l) (updates.writes l);
     } in
     record {
       reading = record {
         later = record { counts = falls_beside settings failures faults faults (falls_refl faults); namenodes = refl; loaded = refl };
         last = refl;
         others = λ l apart. ap read_told (updates.others l apart);
-        writes = slot_stays (λ l. write_told) s s' link (slab.get s link) None refl updates (sym (no_write (slab.get s link) there));
+        writes = λ l. ap write_told (updates.writes l);
         picture = rest;
       };
       ended = ap read_told updates.changed;
       closes = record { rest = rest; gone = ap read_place updates.changed };
     }
 
-module _ (space : Namespace) (settings : MemSettings) (last : LastAnswer) (failures : ℕ) (loaded : List Line) (faults faults' : FaultPlan) (nodes : Datanodes) (s s' : Slab MemLink) (link : ℕ) (v w : MemRead)
-    (was : slab.get s link ≡ Some (links.Read v)) (updates : Updates s s' link (Some (links.Read w))) (earlier : AreEarlier s faults) where
+module _ (space : Namespace) (settings : MemSettings) (last : LastAnswer) (failures : ℕ) (loaded : List Line) (faults faults' : FaultPlan) (nodes : Datanodes) (s s' : MemLinks) (link : ℕ) (v w : MemRead)
+    (was : read_at s link ≡ Some v) (updates : ChangesRead s s' link (Some w)) (earlier : AreEarlier s faults) where
   abbrev old : Shown
   old = shown_at space settings last failures loaded faults nodes s
 
@@ -137,14 +133,14 @@ module _ (space : Namespace) (settings : MemSettings) (last : LastAnswer) (failu
   -- a packet was given
   module _ (packet : ReadPacket) (kind : Option ReadKind) (h : GaveOn kind packet v w) (counts : Counts faults (reads_of (node_of v)) (is_some kind) faults') where
     told_stays : (l : ℕ) → new.reads l ≡ old.reads l
-    told_stays = slot_stays (λ l. read_told) s s' link (Some (links.Read v)) (Some (links.Read w)) was updates (ap Some h.told)
+    told_stays = link_stays (λ l. read_told) (read_at s) (read_at s') link (Some v) (Some w) was updates.changed updates.others (ap Some h.told)
 
     rest : ReadsAt link p q
     rest = record {
       files = record { names = λ path. refl; table = λ id. refl; held = λ node id. refl; defaults = refl };
       active = refl;
       others = λ l apart. ap read_place (updates.others l apart);
-      writes = slot_stays (write_place nodes) s s' link (Some (links.Read v)) (Some (links.Read w)) was updates refl;
+      writes = λ l. ap (write_place nodes l) (updates.writes l);
     }
 
     failed : is_some kind ≡ true → Failed
@@ -169,7 +165,7 @@ module _ (space : Namespace) (settings : MemSettings) (last : LastAnswer) (failu
         later = record { counts = falls_beside settings failures faults faults' (falls_counts faults faults' (reads_of (node_of v)) (is_some kind) counts); namenodes = refl; loaded = refl };
         last = refl;
         others = λ l apart. told_stays l;
-        writes = slot_stays (λ l. write_told) s s' link (Some (links.Read v)) (Some (links.Read w)) was updates refl;
+        writes = λ l. ap write_told (updates.writes l);
         picture = rest;
       };
       still_open = told_stays link;
@@ -200,7 +196,7 @@ module _ (space : Namespace) (settings : MemSettings) (last : LastAnswer) (failu
 
   told_after : w.told ≡ v.told → NoneFalls faults faults' → AreEarlier s' faults'
   told_after same fall =
-      changed_earlier s s' faults' link (Some (links.Read w)) updates (told_earlier faults' w (subst (IsEarlier faults') (sym same) (later_earlier s faults faults' fall earlier link v.told (ap read_told was))))
+      changed_earlier s s' faults' link (Some w) updates (told_earlier faults' w (subst (IsEarlier faults') (sym same) (later_earlier s faults faults' fall earlier link v.told (ap read_told was))))
       (later_earlier s faults faults' fall earlier)
 
   pub gives_earlier : (result : Result ReadPacket LinkFault) → GivesOn faults faults' v w result → AreEarlier s' faults'

@@ -5,18 +5,17 @@ use Rattle.std.specs.Map.{lookup}
 use Rattle.std.specs.Ordering.{nat_cmp}
 use Rattle.std.specs.Cmp.Lexicographic.{slice_cmp}
 use Rattle.std.specs.String.{string_bytes}
-use Rattle.slab.specs.Slab as slab
-use Rattle.slab.specs.Slab.{Slab}
 use Rattle.hdfs_cluster.specs.declared.mem_settings.MemSettings.{MemSettings}
 use Rattle.hdfs_cluster.specs.declared.picture.LastAnswer.{LastAnswer}
 use Rattle.hdfs_cluster.specs.Loading.{LoadsAt, LoadsNothing}
 use Rattle.std.proofs.lemmas.List.{map-append}
 use Rattle.hdfs_mem_faults.specs.declared.fault_plan.FaultPlan.{FaultPlan}
 use Rattle.hdfs_mem_faults.specs.Following.{Follows}
+use Rattle.hdfs_mem_cluster.specs.Links.{write_at}
 use Rattle.hdfs_mem_cluster.specs.declared.loaded.Kept.{Kept}
 use Rattle.hdfs_mem_namenode.specs.declared.namespace.Namespace.{Namespace}
 use Rattle.hdfs_mem_datanodes.specs.declared.datanodes.Datanodes.{Datanodes}
-use Rattle.hdfs_mem_cluster.specs.declared.mem_link.MemLink.{MemLink}
+use Rattle.hdfs_mem_cluster.specs.declared.mem_links.MemLinks.{MemLinks}
 use Rattle.hdfs_mem_namenode.specs.Adding.{KeepsBlocks}
 use Rattle.hdfs_mem_cluster.specs.Lines.{line_of}
 use Rattle.hdfs_mem_namenode.specs.Memory.{table_of}
@@ -40,20 +39,20 @@ is_kept None y y' kept some = absurd (cc)
 is_kept (Some x) y y' kept some = kept x refl
 
 -- a load keeps the blocks that were there
-pub loads_at : (space space' : Namespace) (nodes nodes' : Datanodes) (settings : MemSettings) (s : Slab MemLink)
+pub loads_at : (space space' : Namespace) (nodes nodes' : Datanodes) (settings : MemSettings) (s : MemLinks)
     → KeepsBlocks (table_of space.table.entries) (table_of space'.table.entries) (held_in nodes) (held_in nodes')
     → ((d : List ℕ) (b link : ℕ) → undisturbed_in nodes' d b link ≡ undisturbed_in nodes d b link) → LoadsAt (picture_at space nodes settings s) (picture_at space' nodes' settings s)
 loads_at space space' nodes nodes' settings s kept links = record {
   active = refl;
   defaults = refl;
   reads = λ link. refl;
-  writes = λ link. place_same nodes nodes' links link (slab.get s link);
+  writes = λ link. place_same nodes nodes' links link (write_at s link);
   table = λ id. was_kept (table_of space.table.entries id) (table_of space'.table.entries id) (kept.table id);
   held = λ node id. is_kept (table_of space.table.entries id) (held_in nodes node id) (held_in nodes' node id) (λ entry is. kept.held id entry is node);
 }
 
 -- the names and the lines stay, the blocks are kept, and no count rose
-pub nothing_loaded : (space space' : Namespace) (settings : MemSettings) (last : LastAnswer) (failures : ℕ) (items items' : List Kept) (faults : FaultPlan) (nodes nodes' : Datanodes) (s : Slab MemLink) → items' ≡ items → space'.names.entries ≡ space.names.entries
+pub nothing_loaded : (space space' : Namespace) (settings : MemSettings) (last : LastAnswer) (failures : ℕ) (items items' : List Kept) (faults : FaultPlan) (nodes nodes' : Datanodes) (s : MemLinks) → items' ≡ items → space'.names.entries ≡ space.names.entries
     → KeepsBlocks (table_of space.table.entries) (table_of space'.table.entries) (held_in nodes) (held_in nodes')
     → ((d : List ℕ) (b link : ℕ) → undisturbed_in nodes' d b link ≡ undisturbed_in nodes d b link)
     → LoadsNothing (shown_at space settings last failures (map line_of items) faults nodes s) (shown_at space' settings last failures (map line_of items') faults nodes' s)

@@ -3,8 +3,6 @@ use Rattle.std.proofs.Common.{◌≡◌, inl, inr, ℕ, List, [], ◌∷◌, ◌
 use Rattle.std.specs.BTreeMap.{get_by_text}
 use Rattle.std.specs.List.{All, Contains, IsDistinct}
 use Rattle.std.specs.Str.{bytes_eq}
-use Rattle.slab.specs.Slab as slab
-use Rattle.slab.specs.Slab.{Slab}
 use Rattle.hdfs_cluster.specs.declared.asks.Ask.TheVariants as asks
 use Rattle.hdfs_cluster.specs.declared.asks.Answer.TheVariants as answers
 use Rattle.hdfs_cluster.specs.declared.asks.AskFault.{AskFault}
@@ -23,7 +21,8 @@ use Rattle.hdfs_cluster.specs.Refusals.{append_refusal}
 use Rattle.hdfs_cluster.specs.Sending.{uuids}
 use Rattle.hdfs_mem_namenode.specs.declared.namespace.Namespace.{Namespace}
 use Rattle.hdfs_mem_datanodes.specs.declared.datanodes.Datanodes.{Datanodes}
-use Rattle.hdfs_mem_cluster.specs.declared.mem_link.MemLink.{MemLink}
+use Rattle.hdfs_mem_cluster.specs.Links.{write_at}
+use Rattle.hdfs_mem_cluster.specs.declared.mem_links.MemLinks.{MemLinks}
 use Rattle.hdfs_mem_namenode.specs.Adding.{OpensAgain, whole_nodes}
 use Rattle.hdfs_mem_namenode.specs.Spaces.{space_of}
 use Rattle.hdfs_mem_namenode.specs.Answering.{Answers, StandsForWritten}
@@ -36,7 +35,7 @@ use Rattle.hdfs_mem_cluster.proofs.Places.{place_same}
 abbrev new_entry : ℕ → ℕ → List (List ℕ) → BlockEntry
 new_entry n stamp ns = record { length = n; stamp = stamp; nodes = ns }
 
-module _ (space space' : Namespace) (nodes nodes' : Datanodes) (settings : MemSettings) (links : Slab MemLink) (held : SameHeld nodes nodes') where
+module _ (space space' : Namespace) (nodes nodes' : Datanodes) (settings : MemSettings) (links : MemLinks) (held : SameHeld nodes nodes') where
   abbrev p : Picture
   p = picture_at space nodes settings links
 
@@ -47,7 +46,7 @@ module _ (space space' : Namespace) (nodes nodes' : Datanodes) (settings : MemSe
   changes_space named listed names table = record {
     names = names;
     table = table;
-    bytes = record { held = λ node id. (held node id).bytes; defaults = refl; reads = λ link. refl; writes = λ link. place_same nodes nodes' (λ d b l. (held d b).links l) link (slab.get links link) };
+    bytes = record { held = λ node id. (held node id).bytes; defaults = refl; reads = λ link. refl; writes = λ link. place_same nodes nodes' (λ d b l. (held d b).links l) link (write_at links link) };
   }
 
   same_space : (space'.names ≡ space.names) × (space'.table ≡ space.table) → SamePicture p q
@@ -55,7 +54,7 @@ module _ (space space' : Namespace) (nodes nodes' : Datanodes) (settings : MemSe
     rest = record {
       files = record { names = λ path. ap (λ names. get_by_text names path) same.0; table = λ id. ap (λ t. table_of t.entries id) same.1; held = λ node id. (held node id).bytes; defaults = refl };
       reads = λ link. refl;
-      writes = λ link. place_same nodes nodes' (λ d b l. (held d b).links l) link (slab.get links link);
+      writes = λ link. place_same nodes nodes' (λ d b l. (held d b).links l) link (write_at links link);
     };
     active = refl;
   }

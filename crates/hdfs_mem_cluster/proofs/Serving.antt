@@ -2,7 +2,6 @@
 use Rattle.std.proofs.Common.{if◌then◌else◌, ◌≡◌, ◌≢◌, ◌⊎◌, ⊎_elim, inl, inr, ℕ, ◌+◌, ◌-◌, ◌^◌, ◌<◌, ◌≤◌, min, nat_lt, Bool, true, false, ◌&&◌, ◌||◌, List, map, Option, Some, None, is_some, Result, Ok, Err, IsErr, is_err, IfOk, OnOk, refl, sym, ◌∙◌, ap, subst, arith}
 use Rattle.std.proofs.lemmas.Bool.{cases_eq, false≢true}
 use Rattle.std.proofs.lemmas.Bool.Decides.{nat_tests}
-use Rattle.slab.specs.Slab.{Slab}
 use Rattle.hdfs_cluster.specs.declared.asks.Ask.{Ask}
 use Rattle.hdfs_cluster.specs.declared.asks.Ask.TheVariants as asks
 use Rattle.hdfs_cluster.specs.declared.asks.Answer.{Answer}
@@ -28,7 +27,7 @@ use Rattle.hdfs_mem_namenode.specs.declared.namespace.Namespace.{Namespace}
 use Rattle.hdfs_mem_datanodes.specs.declared.datanodes.Datanodes.{Datanodes}
 use Rattle.hdfs_mem_cluster.specs.declared.config.Config.{Config}
 use Rattle.hdfs_mem_cluster.specs.declared.mem_cluster.MemCluster.{MemCluster}
-use Rattle.hdfs_mem_cluster.specs.declared.mem_link.MemLink.{MemLink}
+use Rattle.hdfs_mem_cluster.specs.declared.mem_links.MemLinks.{MemLinks}
 use Rattle.hdfs_mem_namenode.specs.Answering.{Answers}
 use Rattle.hdfs_mem_cluster.specs.Counting.{CountsAsk, MemServes}
 use Rattle.hdfs_mem_cluster.specs.Lines.{line_of}
@@ -266,7 +265,7 @@ module _ (settings : MemSettings) (i : ℕ) (kind : Option AskKind) (result : Re
 -- ---- both together
 
 -- an ask is served, and its answer is the last one
-pub served : (space space' : Namespace) (plan plan' : FaultPlan) (nodes nodes' : Datanodes) (settings : MemSettings) (last last' : LastAnswer) (calls calls' : ℕ) (loaded : List Line) (s : Slab MemLink) (i : ℕ) (ask : Ask) (kind : Option AskKind) (result : Result Answer AskFault)
+pub served : (space space' : Namespace) (plan plan' : FaultPlan) (nodes nodes' : Datanodes) (settings : MemSettings) (last last' : LastAnswer) (calls calls' : ℕ) (loaded : List Line) (s : MemLinks) (i : ℕ) (ask : Ask) (kind : Option AskKind) (result : Result Answer AskFault)
     → last' ≡ last_of result → AskCounts settings i kind result calls calls' plan plan'
     → AskComesTo loaded nodes.count kind (picture_at space nodes settings s) i ask result (picture_at space' nodes' settings s)
     → Served (shown_at space settings last calls loaded plan nodes s) i ask result (shown_at space' settings last' calls' loaded plan' nodes' s)

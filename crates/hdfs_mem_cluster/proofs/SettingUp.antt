@@ -1,7 +1,6 @@
 -- What the set-up of a pipeline does to the plan of faults, and what it asks for.
 use Rattle.std.proofs.Common.{◌≡◌, ◌≢◌, ℕ, List, [], ◌∷◌, Option, Some, None, Ok, Err, refl, sym, ◌∙◌, ap, unwrap_or}
 use Rattle.std.specs.Prelude.{slice_get}
-use Rattle.slab.specs.Slab as slab
 use Rattle.hdfs_cluster.specs.declared.asks.LinkFault.{LinkFault}
 use Rattle.hdfs_cluster.specs.declared.asks.LinkFault.TheVariants as link_faults
 use Rattle.hdfs_cluster.specs.declared.messages.DatanodeInfo.{DatanodeInfo}
@@ -16,7 +15,7 @@ use Rattle.hdfs_mem_faults.proofs.Following.{end_follows, same_follows, set_up_f
 use Rattle.hdfs_mem_cluster.specs.declared.mem_cluster.MemCluster.{MemCluster}
 use Rattle.hdfs_mem_cluster.specs.Counting.{AsksSetUp}
 use Rattle.hdfs_mem_cluster.specs.Failures.{planned_failure}
-use Rattle.hdfs_mem_cluster.specs.Links.{write_told}
+use Rattle.hdfs_mem_cluster.specs.Links.{write_at, write_told}
 use Rattle.hdfs_mem_cluster.specs.SettingUp.{CountsSetUp, blamed, blamed_at}
 use Rattle.hdfs_mem_datanodes.specs.Nodes.{SameNodes}
 use Rattle.hdfs_mem_cluster.proofs.Asking.{asks_forgotten, asks_set_up, never_memory}
@@ -80,7 +79,7 @@ counts_rose old new link first fault h apart =
     let c = h.counts (λ is. apart (ap (λ (o : Option LinkFault). unwrap_or o fault) is)) in
     rose_set_up old h.mid new link first c.0 fault h.forgets c.1 (sym c.2)
 
-module _ (m m' : MemCluster) (setup : Setup) (link : ℕ) (rest : SameNodes m.nodes m'.nodes) (vacant : write_told (slab.get m.links link) ≡ None) where
+module _ (m m' : MemCluster) (setup : Setup) (link : ℕ) (rest : SameNodes m.nodes m'.nodes) (vacant : write_told (write_at m.links link) ≡ None) where
   -- it failed
   pub asks_failed : (fault : LinkFault) → CountsSetUp m.faults link (blamed setup) (Some fault) m'.faults → AsksSetUp m setup (Err fault) m'
   asks_failed link_faults.NoMemory h = asks_forgotten m m' setup h.mid link rest h.forgets (h.memory refl) vacant

@@ -7,8 +7,6 @@ use Rattle.std.proofs.lemmas.List.Elements.{All-get_or, All-weaker}
 use Rattle.std.proofs.lemmas.Slice.Eq.{bytes_eq-Decides}
 use Rattle.std.specs.List.{All, Any}
 use Rattle.std.specs.Str.{bytes_eq}
-use Rattle.slab.specs.Slab as slab
-use Rattle.slab.specs.Slab.{Slab}
 use Rattle.hdfs_cluster.specs.declared.mem_settings.MemSettings.{MemSettings}
 use Rattle.hdfs_cluster.specs.declared.picture.BlockEntry.{BlockEntry}
 use Rattle.hdfs_cluster.specs.declared.picture.Entry.{Entry}
@@ -21,9 +19,9 @@ use Rattle.hdfs_mem_namenode.specs.declared.namespace.Namespace.{Namespace}
 use Rattle.hdfs_mem_datanodes.specs.declared.datanodes.Datanodes.{Datanodes}
 use Rattle.hdfs_mem_datanodes.specs.Nodes.{is_here, undisturbed_in}
 use Rattle.hdfs_mem_datanodes.proofs.Nodes.{here_false, here_true}
-use Rattle.hdfs_mem_cluster.specs.declared.mem_link.MemLink.{MemLink}
-use Rattle.hdfs_mem_cluster.specs.declared.mem_link.MemLink.TheVariants as links
-use Rattle.hdfs_mem_cluster.specs.Links.{write_place}
+use Rattle.hdfs_mem_cluster.specs.declared.mem_links.MemLinks.{MemLinks}
+use Rattle.hdfs_mem_cluster.specs.declared.write_link.MemWrite.{MemWrite}
+use Rattle.hdfs_mem_cluster.specs.Links.{write_at, write_place}
 use Rattle.hdfs_mem_cluster.specs.MemShown.{picture_at}
 use Rattle.hdfs_mem_cluster.specs.Shortening.{CanCut, CutsReplica, left_on}
 use Rattle.hdfs_mem_cluster.proofs.Agreeing.{agrees_by}
@@ -90,17 +88,16 @@ module _ (p q : Picture) (id len : ℕ) (uuid : List ℕ) (held : (d : List ℕ)
         subst (λ (o : Option Entry). AgreesAt q o (files path)) (sym (names path)) (agrees_by p q (λ b e is. table b ∙ is) stores (p.names path) (files path) (was path))
 
 -- a link that has another block is shown alike
-pub writes_kept : (nodes nodes' : Datanodes) (uuid : List ℕ) (id len : ℕ) → CutsReplica nodes uuid id len nodes' → (l : ℕ) (slot : Option MemLink) (place : WritePlace) → write_place nodes l slot ≡ Some place → place.block ≢ id → write_place nodes' l slot ≡ Some place
+pub writes_kept : (nodes nodes' : Datanodes) (uuid : List ℕ) (id len : ℕ) → CutsReplica nodes uuid id len nodes' → (l : ℕ) (slot : Option MemWrite) (place : WritePlace) → write_place nodes l slot ≡ Some place → place.block ≢ id → write_place nodes' l slot ≡ Some place
 writes_kept nodes nodes' uuid id len cuts l None place is apart = is
-writes_kept nodes nodes' uuid id len cuts l (Some (links.Read read)) place is apart = is
-writes_kept nodes nodes' uuid id len cuts l (Some (links.Write write)) place is apart =
+writes_kept nodes nodes' uuid id len cuts l (Some write) place is apart =
     let b = write.setup.block.block_id in
     let block : b ≡ place.block = ap (λ (o : Option WritePlace). (unwrap_or o place).block) is in
     let same = λ (d : List ℕ). cuts.links d b l ∙ ap (λ (t : Bool). cond t false (undisturbed_in nodes d b l)) (here_false uuid id d b (λ node this. apart (sym block ∙ this))) in
     ap Some (place_same_for nodes nodes' l write same) ∙ is
 
 -- in the picture the replica alone is cut
-pub cuts_at : (space : Namespace) (nodes nodes' : Datanodes) (settings : MemSettings) (s : Slab MemLink) (uuid : List ℕ) (id len : ℕ) → CutsReplica nodes uuid id len nodes' → CutsAt len (picture_at space nodes settings s) (picture_at space nodes' settings s)
+pub cuts_at : (space : Namespace) (nodes nodes' : Datanodes) (settings : MemSettings) (s : MemLinks) (uuid : List ℕ) (id len : ℕ) → CutsReplica nodes uuid id len nodes' → CutsAt len (picture_at space nodes settings s) (picture_at space nodes' settings s)
 cuts_at space nodes nodes' settings s uuid id len cuts =
     let p = picture_at space nodes settings s in
     let q = picture_at space nodes' settings s in
@@ -110,7 +107,7 @@ cuts_at space nodes nodes' settings s uuid id len cuts =
       only = record {
         records = record { names = λ path. refl; table = λ b. refl; active = refl; defaults = refl; reads = λ link. refl };
         held = λ node other apart. held_else p q id len uuid cuts.held node other (λ same this. apart (sym this) (0, omega arith, sym same));
-        writes = λ link place is other. writes_kept nodes nodes' uuid id len cuts link (slab.get s link) place is other;
+        writes = λ link place is other. writes_kept nodes nodes' uuid id len cuts link (write_at s link) place is other;
       };
       cut = held_here p q id len uuid cuts.held;
     }

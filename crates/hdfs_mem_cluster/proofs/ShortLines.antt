@@ -1,8 +1,6 @@
 -- What a line with a short replica does, and where it is not taken.
 use Rattle.std.proofs.Common.{◌≡◌, ℕ, List, [], ◌∷◌, ◌++◌, map, refl, ◌∙◌, ap}
 use Rattle.std.proofs.lemmas.List.{map-append}
-use Rattle.slab.specs.Slab as slab
-use Rattle.slab.specs.Slab.{Slab}
 use Rattle.hdfs_cluster.specs.declared.mem_settings.MemSettings.{MemSettings}
 use Rattle.hdfs_cluster.specs.declared.picture.LastAnswer.{LastAnswer}
 use Rattle.hdfs_cluster.specs.declared.store.Line.TheVariants as lines
@@ -15,7 +13,7 @@ use Rattle.hdfs_mem_namenode.specs.Spaces.{space_of}
 use Rattle.hdfs_mem_datanodes.specs.declared.datanodes.Datanodes.{Datanodes}
 use Rattle.hdfs_mem_datanodes.specs.Nodes.{SameHeld}
 use Rattle.hdfs_mem_cluster.specs.declared.loaded.Kept.{Kept}
-use Rattle.hdfs_mem_cluster.specs.declared.mem_link.MemLink.{MemLink}
+use Rattle.hdfs_mem_cluster.specs.declared.mem_links.MemLinks.{MemLinks}
 use Rattle.hdfs_mem_cluster.specs.declared.loaded.Kept.TheVariants as keeps
 use Rattle.hdfs_mem_cluster.specs.Lines.{line_of}
 use Rattle.hdfs_mem_cluster.specs.MemShown.{picture_at}
@@ -26,7 +24,7 @@ use Rattle.hdfs_mem_cluster.proofs.NothingLoaded.{nothing_loaded}
 use Rattle.hdfs_mem_cluster.proofs.ShortCuts.{agrees_short, cuts_at}
 use Rattle.hdfs_mem_cluster.proofs.Stills.{shown_at}
 
-module _ (space : Namespace) (settings : MemSettings) (last : LastAnswer) (failures : ℕ) (items items' : List Kept) (faults : FaultPlan) (nodes nodes' : Datanodes) (s : Slab MemLink) where
+module _ (space : Namespace) (settings : MemSettings) (last : LastAnswer) (failures : ℕ) (items items' : List Kept) (faults : FaultPlan) (nodes nodes' : Datanodes) (s : MemLinks) where
   -- nor of what is asked for a line that was not loaded
   pub not_short : items' ≡ items → SameHeld nodes nodes' → LoadsNothing (shown_at space settings last failures (map line_of items) faults nodes s) (shown_at space settings last failures (map line_of items') faults nodes' s)
   not_short lines same =

@@ -1,7 +1,5 @@
 -- What a cluster shows where nothing is seen to change.
 use Rattle.std.proofs.Common.{◌≡◌, ◌≢◌, inl, ℕ, List, [], get_or, Option, Some, IfSome, unwrap_or, refl, sym, ◌∙◌, ap, subst, arith}
-use Rattle.slab.specs.Slab as slab
-use Rattle.slab.specs.Slab.{Slab, Updates}
 use Rattle.hdfs_wire.specs.Outgoing.{Outgoing}
 use Rattle.hdfs_cluster.specs.declared.asks.LinkFault.{LinkFault}
 use Rattle.hdfs_cluster.specs.declared.asks.LinkFault.TheVariants as link_faults
@@ -20,78 +18,71 @@ use Rattle.hdfs_mem_faults.specs.Plans.{node_faults_of}
 use Rattle.hdfs_cluster.specs.Shown.{Shown, Later, NotOpened, NotGiven}
 use Rattle.hdfs_mem_namenode.specs.declared.namespace.Namespace.{Namespace}
 use Rattle.hdfs_mem_datanodes.specs.declared.datanodes.Datanodes.{Datanodes}
-use Rattle.hdfs_mem_cluster.specs.declared.mem_link.MemLink.{MemLink}
-use Rattle.hdfs_mem_cluster.specs.declared.mem_link.MemLink.TheVariants as links
+use Rattle.hdfs_mem_cluster.specs.declared.mem_links.MemLinks.{MemLinks}
 use Rattle.hdfs_mem_cluster.specs.declared.read_link.MemRead.{MemRead}
 use Rattle.hdfs_mem_cluster.specs.declared.write_link.MemWrite.{MemWrite}
-use Rattle.hdfs_mem_cluster.specs.Links.{read_told, read_place, write_told, write_place, OnWrites, UnsentOn, UnackedOn, first_uuid}
+use Rattle.hdfs_mem_cluster.specs.Links.{read_at, read_told, read_place, write_at, write_told, write_place, ChangesRead, ChangesWrite, KeepsLinks, UnsentOn, UnackedOn, first_uuid}
 use Rattle.hdfs_mem_cluster.specs.MemShown.{picture_at, loaded_at, counts_at}
 use Rattle.hdfs_mem_cluster.specs.Writes.{place_of, told_of}
 use Rattle.hdfs_mem_datanodes.specs.Nodes.{SameHeld}
 use Rattle.hdfs_mem_cluster.proofs.Counting.{same_namenodes, NoneFalls, falls_beside}
-use Rattle.hdfs_mem_cluster.proofs.Places.{slot_stays, place_same, told_kept, place_kept}
+use Rattle.hdfs_mem_cluster.proofs.Places.{link_stays, place_same, told_kept, place_kept}
 
 -- what a cluster with these parts shows
-abbrev pub shown_at : Namespace → MemSettings → LastAnswer → ℕ → List Line → FaultPlan → Datanodes → Slab MemLink → Shown
+abbrev pub shown_at : Namespace → MemSettings → LastAnswer → ℕ → List Line → FaultPlan → Datanodes → MemLinks → Shown
 shown_at space settings last failures loaded faults nodes s = record {
   picture = Some (picture_at space nodes settings s);
   counts = counts_at settings failures faults;
   last = last;
   namenodes = settings.namenodes;
-  reads = λ link. read_told (slab.get s link);
-  writes = λ link. write_told (slab.get s link);
+  reads = λ link. read_told (read_at s link);
+  writes = λ link. write_told (write_at s link);
   loaded = loaded_at settings loaded;
 }
 
 -- each link is shown alike
-pub record SameLinksShown (s s' : Slab MemLink) : Type 0 where
-  pub reads : (l : ℕ) → read_told (slab.get s' l) ≡ read_told (slab.get s l)
-  pub read_places : (l : ℕ) → read_place (slab.get s' l) ≡ read_place (slab.get s l)
-  pub writes : (l : ℕ) → write_told (slab.get s' l) ≡ write_told (slab.get s l)
-  pub write_places : (nodes : Datanodes) (l : ℕ) → write_place nodes l (slab.get s' l) ≡ write_place nodes l (slab.get s l)
+pub record SameLinksShown (s s' : MemLinks) : Type 0 where
+  pub reads : (l : ℕ) → read_told (read_at s' l) ≡ read_told (read_at s l)
+  pub read_places : (l : ℕ) → read_place (read_at s' l) ≡ read_place (read_at s l)
+  pub writes : (l : ℕ) → write_told (write_at s' l) ≡ write_told (write_at s l)
+  pub write_places : (nodes : Datanodes) (l : ℕ) → write_place nodes l (write_at s' l) ≡ write_place nodes l (write_at s l)
 
-pub links_from_slots : (s s' : Slab MemLink) → ((l : ℕ) → slab.get s' l ≡ slab.get s l) → SameLinksShown s s'
-links_from_slots s s' same = record {
-  reads = λ l. ap read_told (same l);
-  read_places = λ l. ap read_place (same l);
-  writes = λ l. ap write_told (same l);
-  write_places = λ nodes l. ap (write_place nodes l) (same l);
+pub links_from_same : (s s' : MemLinks) → KeepsLinks s s' → SameLinksShown s s'
+links_from_same s s' same = record {
+  reads = λ l. ap read_told (same.reads l);
+  read_places = λ l. ap read_place (same.reads l);
+  writes = λ l. ap write_told (same.writes l);
+  write_places = λ nodes l. ap (write_place nodes l) (same.writes l);
 }
 
--- a write link is written back of which nothing changed that is shown
-pub links_from_write : (s s' : Slab MemLink) (link : ℕ) (v w : MemWrite) → slab.get s link ≡ Some (links.Write v) → Updates s s' link (Some (links.Write w))
+-- a write is written back of which nothing changed that is shown
+pub links_from_write : (s s' : MemLinks) (link : ℕ) (v w : MemWrite) → write_at s link ≡ Some v → ChangesWrite s s' link (Some w)
     → w.setup ≡ v.setup → w.base ≡ v.base → w.sent.items ≡ v.sent.items → w.responses.items ≡ v.responses.items → w.acknowledged ≡ v.acknowledged → SameLinksShown s s'
-links_from_write s s' link v w was updates setup base sent responses acknowledged = record {
-  reads = slot_stays (λ l. read_told) s s' link (Some (links.Write v)) (Some (links.Write w)) was updates refl;
-  read_places = slot_stays (λ l. read_place) s s' link (Some (links.Write v)) (Some (links.Write w)) was updates refl;
-  writes = slot_stays (λ l. write_told) s s' link (Some (links.Write v)) (Some (links.Write w)) was updates (ap Some (told_kept v w setup base sent responses acknowledged));
-  write_places = λ nodes. slot_stays (write_place nodes) s s' link (Some (links.Write v)) (Some (links.Write w)) was updates (ap Some (place_kept v w setup base sent responses acknowledged nodes link));
+links_from_write s s' link v w was changes setup base sent responses acknowledged = record {
+  reads = λ l. ap read_told (changes.reads l);
+  read_places = λ l. ap read_place (changes.reads l);
+  writes = link_stays (λ l. write_told) (write_at s) (write_at s') link (Some v) (Some w) was changes.changed changes.others (ap Some (told_kept v w setup base sent responses acknowledged));
+  write_places = λ nodes. link_stays (write_place nodes) (write_at s) (write_at s') link (Some v) (Some w) was changes.changed changes.others (ap Some (place_kept v w setup base sent responses acknowledged nodes link));
 }
 
--- a read link is written back of which nothing changed
-pub links_from_read : (s s' : Slab MemLink) (link : ℕ) (v w : MemRead) → slab.get s link ≡ Some (links.Read v) → Updates s s' link (Some (links.Read w)) → w.told ≡ v.told → w.place ≡ v.place → SameLinksShown s s'
-links_from_read s s' link v w was updates told place = record {
-  reads = slot_stays (λ l. read_told) s s' link (Some (links.Read v)) (Some (links.Read w)) was updates (ap Some told);
-  read_places = slot_stays (λ l. read_place) s s' link (Some (links.Read v)) (Some (links.Read w)) was updates (ap Some place);
-  writes = slot_stays (λ l. write_told) s s' link (Some (links.Read v)) (Some (links.Read w)) was updates refl;
-  write_places = λ nodes. slot_stays (write_place nodes) s s' link (Some (links.Read v)) (Some (links.Read w)) was updates refl;
+-- a read is written back of which nothing changed
+pub links_from_read : (s s' : MemLinks) (link : ℕ) (v w : MemRead) → read_at s link ≡ Some v → ChangesRead s s' link (Some w) → w.told ≡ v.told → w.place ≡ v.place → SameLinksShown s s'
+links_from_read s s' link v w was changes told place = record {
+  reads = link_stays (λ l. read_told) (read_at s) (read_at s') link (Some v) (Some w) was changes.changed changes.others (ap Some told);
+  read_places = link_stays (λ l. read_place) (read_at s) (read_at s') link (Some v) (Some w) was changes.changed changes.others (ap Some place);
+  writes = λ l. ap write_told (changes.writes l);
+  write_places = λ nodes l. ap (write_place nodes l) (changes.writes l);
 }
 
--- a slot is written back after a packet that wasn't sent
-pub links_unsent : (nodes nodes' : Datanodes) (s s' : Slab MemLink) (link : ℕ) (o o' : MemLink) → slab.get s link ≡ Some o → Updates s s' link (Some o') → OnWrites (UnsentOn nodes nodes') o o' → SameLinksShown s s' × SameHeld nodes nodes'
-links_unsent nodes nodes' s s' link (links.Write v) (links.Write w) was updates h = (links_from_write s s' link v w was updates h.same.setup h.same.base h.sent h.same.responses h.same.acknowledged, h.held)
-links_unsent nodes nodes' s s' link (links.Write v) (links.Read w) was updates h = absurd h
-links_unsent nodes nodes' s s' link (links.Read v) (links.Read w) was updates h = absurd h
-links_unsent nodes nodes' s s' link (links.Read v) (links.Write w) was updates h = absurd h
+-- a write is written back after a packet that wasn't sent
+pub links_unsent : (nodes nodes' : Datanodes) (s s' : MemLinks) (link : ℕ) (v w : MemWrite) → write_at s link ≡ Some v → ChangesWrite s s' link (Some w) → UnsentOn nodes nodes' v w → SameLinksShown s s'
+links_unsent nodes nodes' s s' link v w was changes h = links_from_write s s' link v w was changes h.same.setup h.same.base h.sent h.same.responses h.same.acknowledged
 
 -- and after an acknowledgement that didn't come
-pub links_unacked : (s s' : Slab MemLink) (link : ℕ) (o o' : MemLink) → slab.get s link ≡ Some o → Updates s s' link (Some o') → OnWrites UnackedOn o o' → SameLinksShown s s'
-links_unacked s s' link (links.Write v) (links.Write w) was updates h = links_from_write s s' link v w was updates h.setup h.base (ap (λ x. x.items) h.sent) h.responses h.acknowledged
-links_unacked s s' link (links.Write v) (links.Read w) was updates h = absurd h
-links_unacked s s' link (links.Read v) (links.Read w) was updates h = absurd h
-links_unacked s s' link (links.Read v) (links.Write w) was updates h = absurd h
+pub links_unacked : (s s' : MemLinks) (link : ℕ) (v w : MemWrite) → write_at s link ≡ Some v → ChangesWrite s s' link (Some w) → UnackedOn v w → SameLinksShown s s'
+links_unacked s s' link v w was changes h = links_from_write s s' link v w was changes h.setup h.base (ap (λ x. x.items) h.sent) h.responses h.acknowledged
 
-module _ (space : Namespace) (settings : MemSettings) (last : LastAnswer) (failures : ℕ) (loaded : List Line) (faults faults' : FaultPlan) (fall : NoneFalls faults faults') (nodes nodes' : Datanodes) (s s' : Slab MemLink) where
+module _ (space : Namespace) (settings : MemSettings) (last : LastAnswer) (failures : ℕ) (loaded : List Line) (faults faults' : FaultPlan) (fall : NoneFalls faults faults') (nodes nodes' : Datanodes) (s s' : MemLinks) where
   abbrev old : Shown
   old = shown_at space settings last failures loaded faults nodes s
 
@@ -111,12 +102,12 @@ module _ (space : Namespace) (settings : MemSettings) (last : LastAnswer) (failu
     pub still_files : SameFiles p q
     still_files = record { names = λ path. refl; table = λ id. refl; held = λ node id. (held node id).bytes; defaults = refl }
 
-    pub still_place : (l : ℕ) (slot : Option MemLink) → write_place nodes' l slot ≡ write_place nodes l slot
+    pub still_place : (l : ℕ) (slot : Option MemWrite) → write_place nodes' l slot ≡ write_place nodes l slot
     still_place = place_same nodes nodes' (λ d b link. (held d b).links link)
 
     module _ (same : SameLinksShown s s') where
       pub still_picture : SamePicture p q
-      still_picture = record { rest = record { files = still_files; reads = same.read_places; writes = λ l. still_place l (slab.get s' l) ∙ same.write_places nodes l }; active = refl }
+      still_picture = record { rest = record { files = still_files; reads = same.read_places; writes = λ l. still_place l (write_at s' l) ∙ same.write_places nodes l }; active = refl }
 
       only : OnlyWrites old new
       only = record { later = still_later; last = refl; calls = same_namenodes settings failures faults faults' fall.asks; reads = same.reads; places = λ l is. same.read_places l }
@@ -133,7 +124,7 @@ module _ (space : Namespace) (settings : MemSettings) (last : LastAnswer) (failu
       }
 
       -- the link goes on, and no packet was sent
-      still_sends : (link : ℕ) (packet : Outgoing) (v : MemWrite) → slab.get s link ≡ Some (links.Write v) → Sends link (MayBeBehind packet) p q
+      still_sends : (link : ℕ) (packet : Outgoing) (v : MemWrite) → write_at s link ≡ Some v → Sends link (MayBeBehind packet) p q
       still_sends link packet v was = (
         still_writes link,
         λ write is.
@@ -155,7 +146,7 @@ module _ (space : Namespace) (settings : MemSettings) (last : LastAnswer) (failu
       not_given link fault not_refused cause = record { later = still_later; last = refl; reads = same.reads; writes = same.writes; picture = still_picture; not_refused = not_refused; cause = cause }
 
       -- the connection broke in place of a packet
-      pub broke_off_sent : (link : ℕ) (packet : Outgoing) (v : MemWrite) → slab.get s link ≡ Some (links.Write v)
+      pub broke_off_sent : (link : ℕ) (packet : Outgoing) (v : MemWrite) → write_at s link ≡ Some v
           → Rose (node_faults_of faults (first_uuid v)) (node_faults_of faults' (first_uuid v)) → NotSent old link packet link_faults.Broken new
       broke_off_sent link packet v was rose = record {
         writes = still_link link;

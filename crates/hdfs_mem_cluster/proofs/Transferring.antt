@@ -5,8 +5,6 @@ use Rattle.std.proofs.lemmas.List.Elements.{All-cons, All-nil}
 use Rattle.std.proofs.lemmas.Slice.Eq.{bytes_eq-Decides}
 use Rattle.std.specs.List.{All, Contains}
 use Rattle.std.specs.Str.{bytes_eq}
-use Rattle.slab.specs.Slab as slab
-use Rattle.slab.specs.Slab.{Slab}
 use Rattle.hdfs_cluster.specs.declared.asks.LinkFault.{LinkFault}
 use Rattle.hdfs_cluster.specs.declared.asks.LinkFault.TheVariants as link_faults
 use Rattle.hdfs_cluster.specs.declared.messages.DatanodeInfo.{DatanodeInfo}
@@ -33,12 +31,12 @@ use Rattle.hdfs_mem_datanodes.specs.declared.datanodes.Datanodes.{Datanodes}
 use Rattle.hdfs_mem_datanodes.specs.Nodes.{SameNodes, held_in, is_named, is_on, replica_at}
 use Rattle.hdfs_mem_datanodes.specs.Replicas.{IsGiven, MayBeGiven, SameReplica}
 use Rattle.hdfs_mem_cluster.specs.declared.mem_cluster.MemCluster.{MemCluster}
-use Rattle.hdfs_mem_cluster.specs.declared.mem_link.MemLink.{MemLink}
-use Rattle.hdfs_mem_cluster.specs.declared.mem_link.MemLink.TheVariants as links
+use Rattle.hdfs_mem_cluster.specs.declared.mem_links.MemLinks.{MemLinks}
+use Rattle.hdfs_mem_cluster.specs.declared.write_link.MemWrite.{MemWrite}
 use Rattle.hdfs_mem_cluster.specs.Counting.{AsksTransfer}
 use Rattle.hdfs_mem_cluster.specs.Failures.{failure_of, is_counted, planned_transfer_failure}
 use Rattle.hdfs_mem_cluster.specs.Lines.{line_of}
-use Rattle.hdfs_mem_cluster.specs.Links.{write_place}
+use Rattle.hdfs_mem_cluster.specs.Links.{write_at, write_place}
 use Rattle.hdfs_mem_cluster.specs.MemShown.{picture_at}
 use Rattle.hdfs_mem_cluster.specs.Writes.{place_of}
 use Rattle.hdfs_mem_cluster.proofs.Counting.{NoneFalls, asks_grow, same_namenodes, nodes_stay, one_more}
@@ -103,7 +101,7 @@ not_on locs block d b apart = by_tests (is_named locs d) (eqb block b) (contains
     by_tests false t named same = refl
 
 -- The datanodes after a transfer, over which links and names stay as they are. Which datanodes it names is known by equations.
-module _ (space : Namespace) (settings : MemSettings) (last : LastAnswer) (failures : ℕ) (loaded : List Line) (faults faults' : FaultPlan) (fall : NoneFalls faults faults') (nodes nodes' : Datanodes) (s : Slab MemLink) (transfer : Transfer) (source : List ℕ) (targets : List DatanodeInfo) (is_source : source ≡ transfer.source.id.datanode_uuid) (is_targets : targets ≡ transfer.targets)
+module _ (space : Namespace) (settings : MemSettings) (last : LastAnswer) (failures : ℕ) (loaded : List Line) (faults faults' : FaultPlan) (fall : NoneFalls faults faults') (nodes nodes' : Datanodes) (s : MemLinks) (transfer : Transfer) (source : List ℕ) (targets : List DatanodeInfo) (is_source : source ≡ transfer.source.id.datanode_uuid) (is_targets : targets ≡ transfer.targets)
     (others : (d : List ℕ) (b : ℕ) → is_on targets transfer.block.block_id d b ≡ false → SameReplica (replica_at nodes d b) (replica_at nodes' d b)) where
   abbrev old : Shown
   old = shown_at space settings last failures loaded faults nodes s
@@ -129,10 +127,9 @@ module _ (space : Namespace) (settings : MemSettings) (last : LastAnswer) (failu
   apart_stays d b apart = others d b (ap (λ (locs : List DatanodeInfo). is_on locs block d b) is_targets ∙ not_on transfer.targets block d b apart)
 
   -- a link that has another block is shown alike
-  other_write : (link : ℕ) (slot : Option MemLink) (place : WritePlace) → write_place nodes link slot ≡ Some place → place.block ≢ block → write_place nodes' link slot ≡ Some place
+  other_write : (link : ℕ) (slot : Option MemWrite) (place : WritePlace) → write_place nodes link slot ≡ Some place → place.block ≢ block → write_place nodes' link slot ≡ Some place
   other_write link None place is apart = absurd (cc)
-  other_write link (Some (links.Read read)) place is apart = absurd (cc)
-  other_write link (Some (links.Write write)) place is apart =
+  other_write link (Some write) place is apart =
       let same : place_of nodes link write ≡ place = ap (λ (o : Option WritePlace). unwrap_or o (place_of nodes link write)) is in
       let other : block ≡ write.setup.block.block_id → ⊥ = λ equal. apart (ap (λ (place : WritePlace). place.block) (sym same) ∙ sym equal) in
       ap Some (place_same_for nodes nodes' link write (λ d. (apart_stays d write.setup.block.block_id (λ equal named. other equal)).links link)) ∙ is
@@ -142,15 +139,14 @@ module _ (space : Namespace) (settings : MemSettings) (last : LastAnswer) (failu
   only_block = record {
     records = record { names = λ path. refl; table = λ id. refl; active = refl; defaults = refl; reads = λ l. refl };
     held = λ d b apart. (apart_stays d b apart).bytes;
-    writes = λ link place is apart. other_write link (slab.get s link) place is apart;
+    writes = λ link place is apart. other_write link (write_at s link) place is apart;
   }
 
   -- a link that has the block may be disturbed at the targets, and all else of it stays
-  given_over : (link : ℕ) (slot : Option MemLink) (place : WritePlace) → write_place nodes link slot ≡ Some place
+  given_over : (link : ℕ) (slot : Option MemWrite) (place : WritePlace) → write_place nodes link slot ≡ Some place
       → (place' : WritePlace) × (write_place nodes' link slot ≡ Some place') × IsGivenOver (uuids transfer.targets) place place'
   given_over link None place is = absurd (cc)
-  given_over link (Some (links.Read read)) place is = absurd (cc)
-  given_over link (Some (links.Write write)) place is =
+  given_over link (Some write) place is =
       let same : place_of nodes link write ≡ place = ap (λ (o : Option WritePlace). unwrap_or o (place_of nodes link write)) is in (
         place_of nodes' link write,
         refl,
@@ -168,7 +164,7 @@ module _ (space : Namespace) (settings : MemSettings) (last : LastAnswer) (failu
       )
 
   links_given_over : LinksAreGivenOver (uuids transfer.targets) p q
-  links_given_over = λ link place is. given_over link (slab.get s link) place is
+  links_given_over = λ link place is. given_over link (write_at s link) place is
 
   -- the block was given to all targets
   pub transferred : ((d : List ℕ) → is_named targets d ≡ true → IsGiven (held_in nodes source block) (replica_at nodes' d block)) → Transferred old transfer new

@@ -4,8 +4,6 @@ use Rattle.std.proofs.lemmas.Bool.{cases_eq}
 use Rattle.std.proofs.lemmas.Bool.Decides.{nat_tests}
 use Rattle.std.proofs.lemmas.List.{take_all}
 use Rattle.std.specs.List.{Contains}
-use Rattle.slab.specs.Slab as slab
-use Rattle.slab.specs.Slab.{Slab, Updates}
 use Rattle.hdfs_wire.specs.declared.ack.Ack.{Ack}
 use Rattle.hdfs_wire.specs.Outgoing.{Outgoing}
 use Rattle.hdfs_cluster.specs.declared.asks.LinkFault.{LinkFault}
@@ -25,18 +23,17 @@ use Rattle.hdfs_mem_faults.specs.declared.node_plan.NodeCall.TheVariants as call
 use Rattle.hdfs_mem_faults.specs.Series.{sends_to}
 use Rattle.hdfs_mem_namenode.specs.declared.namespace.Namespace.{Namespace}
 use Rattle.hdfs_mem_datanodes.specs.declared.datanodes.Datanodes.{Datanodes}
-use Rattle.hdfs_mem_cluster.specs.declared.mem_link.MemLink.{MemLink}
-use Rattle.hdfs_mem_cluster.specs.declared.mem_link.MemLink.TheVariants as links
+use Rattle.hdfs_mem_cluster.specs.declared.mem_links.MemLinks.{MemLinks}
 use Rattle.hdfs_mem_cluster.specs.declared.write_link.MemWrite.{MemWrite}
-use Rattle.hdfs_mem_cluster.specs.Links.{read_told, read_place, write_told, write_place, OnWrites, SendsOn, among, UnsentOn, first_uuid}
+use Rattle.hdfs_mem_cluster.specs.Links.{read_told, read_place, write_at, write_told, write_place, ChangesWrite, KeepsLinks, SendsOn, among, first_uuid}
 use Rattle.hdfs_mem_cluster.specs.MemShown.{picture_at}
 use Rattle.hdfs_mem_datanodes.specs.Nodes.{held_in, undisturbed_in, is_named, is_on}
 use Rattle.hdfs_mem_cluster.specs.Writes.{told_at, told_of, place_at, place_of, disturbed_at, SameWrite, PutsPacket}
 use Rattle.hdfs_mem_cluster.proofs.Packets.{last_end-push, put_packets-push, waiting-push, named_at, named_any, contains_named, answered}
-use Rattle.hdfs_mem_cluster.proofs.Places.{slot_stays, place_same_for, place_same_at}
+use Rattle.hdfs_mem_cluster.proofs.Places.{place_same_for, place_same_at}
 use Rattle.hdfs_mem_cluster.specs.SettingUp.{blamed}
 use Rattle.hdfs_mem_cluster.proofs.Counting.{same_namenodes, BlamedRose, NoneFalls, falls_counts, rose_counts, stage_failed}
-use Rattle.hdfs_mem_cluster.proofs.Stills.{shown_at, still_later, broke_off_sent, links_from_write}
+use Rattle.hdfs_mem_cluster.proofs.Stills.{shown_at, still_later, broke_off_sent, links_unsent}
 
 -- the test on a block
 same_block : (a b : ℕ) → a ≡ b → eqb a b ≡ true
@@ -77,21 +74,21 @@ other_link false true u' link other apart is = ap not is
 other_link false false u' link other apart is = ap not is
 
 -- No pipeline was set up. What its datanodes note of the link is not seen, since it is vacant.
-pub not_opened_write : (space : Namespace) (settings : MemSettings) (last : LastAnswer) (failures : ℕ) (loaded : List Line) (faults faults' : FaultPlan) (nodes nodes' : Datanodes) (s s' : Slab MemLink) (link : ℕ) (setup : Setup) (fault : LinkFault)
-    → NoneFalls faults faults' → slab.get s link ≡ None → ((l : ℕ) → slab.get s' l ≡ slab.get s l)
+pub not_opened_write : (space : Namespace) (settings : MemSettings) (last : LastAnswer) (failures : ℕ) (loaded : List Line) (faults faults' : FaultPlan) (nodes nodes' : Datanodes) (s s' : MemLinks) (link : ℕ) (setup : Setup) (fault : LinkFault)
+    → NoneFalls faults faults' → write_at s link ≡ None → KeepsLinks s s'
     → ((d : List ℕ) (b other : ℕ) → (link ≡ other → ⊥) → undisturbed_in nodes' d b other ≡ undisturbed_in nodes d b other) → ((d : List ℕ) (b : ℕ) → held_in nodes' d b ≡ held_in nodes d b)
     → (fault ≢ link_faults.NoMemory → BlamedRose (blamed setup) faults faults')
     → WriteNotOpened (shown_at space settings last failures loaded faults nodes s) setup fault (shown_at space settings last failures loaded faults' nodes' s')
-not_opened_write space settings last failures loaded faults faults' nodes nodes' s s' link setup fault fall vacant slots others bytes rose = record {
-  only = record { later = still_later space settings last failures loaded faults faults' fall nodes nodes' s s'; last = refl; calls = same_namenodes settings failures faults faults' fall.asks; reads = λ l. ap read_told (slots l); places = λ l is. ap read_place (slots l) };
-  writes = λ l. ap write_told (slots l);
+not_opened_write space settings last failures loaded faults faults' nodes nodes' s s' link setup fault fall vacant same others bytes rose = record {
+  only = record { later = still_later space settings last failures loaded faults faults' fall nodes nodes' s s'; last = refl; calls = same_namenodes settings failures faults faults' fall.asks; reads = λ l. ap read_told (same.reads l); places = λ l is. ap read_place (same.reads l) };
+  writes = λ l. ap write_told (same.writes l);
   picture = record {
     rest = record {
       files = record { names = λ path. refl; table = λ id. refl; held = bytes; defaults = refl };
-      reads = λ l. ap read_place (slots l);
-      writes = λ l. ap (write_place nodes' l) (slots l) ∙ ⊎_elim
-          (λ same. subst (λ (k : ℕ). write_place nodes' k (slab.get s k) ≡ write_place nodes k (slab.get s k)) (sym same) (ap (write_place nodes' link) vacant ∙ sym (ap (write_place nodes link) vacant)))
-          (λ apart. place_same_at nodes nodes' l (λ d b. others d b l (λ same. apart (sym same))) (slab.get s l))
+      reads = λ l. ap read_place (same.reads l);
+      writes = λ l. ap (write_place nodes' l) (same.writes l) ∙ ⊎_elim
+          (λ here. subst (λ (k : ℕ). write_place nodes' k (write_at s k) ≡ write_place nodes k (write_at s k)) (sym here) (ap (write_place nodes' link) vacant ∙ sym (ap (write_place nodes link) vacant)))
+          (λ apart. place_same_at nodes nodes' l (λ d b. others d b l (λ here. apart (sym here))) (write_at s l))
           (cases_eq l link);
     };
     active = refl;
@@ -99,7 +96,7 @@ not_opened_write space settings last failures loaded faults faults' nodes nodes'
   cause = λ apart. stage_failed settings failures faults faults' setup.stage setup.locs (rose apart);
 }
 
-module _ (space : Namespace) (settings : MemSettings) (last : LastAnswer) (failures : ℕ) (loaded : List Line) (faults faults' : FaultPlan) (fall : NoneFalls faults faults') (nodes nodes' : Datanodes) (s s' : Slab MemLink) (link : ℕ) (w : MemWrite) (updates : Updates s s' link (Some (links.Write w))) where
+module _ (space : Namespace) (settings : MemSettings) (last : LastAnswer) (failures : ℕ) (loaded : List Line) (faults faults' : FaultPlan) (fall : NoneFalls faults faults') (nodes nodes' : Datanodes) (s s' : MemLinks) (link : ℕ) (w : MemWrite) (updates : ChangesWrite s s' link (Some w)) where
   abbrev old : Shown
   old = shown_at space settings last failures loaded faults nodes s
 
@@ -115,7 +112,7 @@ module _ (space : Namespace) (settings : MemSettings) (last : LastAnswer) (failu
   later : Later old new
   later = still_later space settings last failures loaded faults faults' fall nodes nodes' s s'
 
-  module _ (setup : Setup) (vacant : slab.get s link ≡ None) (is_setup : w.setup ≡ setup) (none_sent : w.sent.items ≡ []) (none_came : w.responses.items ≡ []) (none : w.acknowledged ≡ 0)
+  module _ (setup : Setup) (vacant : write_at s link ≡ None) (is_setup : w.setup ≡ setup) (none_sent : w.sent.items ≡ []) (none_came : w.responses.items ≡ []) (none : w.acknowledged ≡ 0)
       (base : w.base.items ≡ map (λ node. held_in nodes node.id.datanode_uuid setup.block.block_id) setup.locs)
       (entered : (d : List ℕ) → is_named setup.locs d ≡ true → undisturbed_in nodes' d setup.block.block_id link ≡ true)
       (others : (d : List ℕ) (b other : ℕ) → (link ≡ other → ⊥) → undisturbed_in nodes' d b other ≡ undisturbed_in nodes d b other)
@@ -149,9 +146,9 @@ module _ (space : Namespace) (settings : MemSettings) (last : LastAnswer) (failu
     starts = record {
       files = record { names = λ path. refl; table = λ id. refl; held = bytes; defaults = refl };
       active = refl;
-      reads = slot_stays (λ l. read_place) s s' link None (Some (links.Write w)) vacant updates refl;
+      reads = λ l. ap read_place (updates.reads l);
       unused = ap (write_place nodes link) vacant;
-      others = λ l apart. place_same_at nodes nodes' l (λ d b. others d b l (λ same. apart (sym same))) (slab.get s' l) ∙ ap (write_place nodes l) (updates.others l apart);
+      others = λ l apart. place_same_at nodes nodes' l (λ d b. others d b l (λ same. apart (sym same))) (write_at s' l) ∙ ap (write_place nodes l) (updates.others l apart);
       place = place_at (λ i. disturbed_at nodes' link setup i) setup w.base.items [] [] 0;
       at = ap (write_place nodes' link) updates.changed ∙ ap Some is_place;
       fresh = fresh;
@@ -164,16 +161,16 @@ module _ (space : Namespace) (settings : MemSettings) (last : LastAnswer) (failu
         later = later;
         last = refl;
         calls = same_namenodes settings failures faults faults' fall.asks;
-        reads = slot_stays (λ l. read_told) s s' link None (Some (links.Write w)) vacant updates refl;
+        reads = λ l. ap read_told (updates.reads l);
         places = λ l is. starts.reads l;
       };
-      fresh = record { read = ap read_told vacant; write = ap write_told vacant };
+      fresh = ap write_told vacant;
       others = λ l apart. ap write_told (updates.others l apart);
       opened = ap write_told updates.changed ∙ ap Some is_told;
       starts = starts;
     }
 
-  module _ (v : MemWrite) (packet : Outgoing) (was : slab.get s link ≡ Some (links.Write v)) (same : SameWrite v w) (sent : w.sent.items ≡ v.sent.items ++ packet ∷ []) (puts : PutsPacket v.setup link packet nodes nodes') where
+  module _ (v : MemWrite) (packet : Outgoing) (was : write_at s link ≡ Some v) (same : SameWrite v w) (sent : w.sent.items ≡ v.sent.items ++ packet ∷ []) (puts : PutsPacket v.setup link packet nodes nodes') where
     abbrev more : List Outgoing
     more = v.sent.items ++ packet ∷ []
 
@@ -197,11 +194,10 @@ module _ (space : Namespace) (settings : MemSettings) (last : LastAnswer) (failu
         ∙ ap (λ (x : List Outgoing). told_at v.setup x w.acknowledged) sent
         ∙ ap (told_at v.setup more) same.acknowledged
 
-    at_others : (other : ℕ) (slot : Option MemLink) (place : WritePlace) → other ≢ link → slab.get s' other ≡ slot → write_place nodes other slot ≡ Some place
+    at_others : (other : ℕ) (slot : Option MemWrite) (place : WritePlace) → other ≢ link → write_at s' other ≡ slot → write_place nodes other slot ≡ Some place
         → IsLeftAlone p q other place ⊎ ((place' : WritePlace) × (q.writes other ≡ Some place') × IsDisturbed before place place')
     at_others other None place apart now is = absurd (cc)
-    at_others other (Some (links.Read read)) place apart now is = absurd (cc)
-    at_others other (Some (links.Write x)) place apart now is =
+    at_others other (Some x) place apart now is =
         let same_place : place_of nodes other x ≡ place = ap (λ (o : Option WritePlace). unwrap_or o (place_of nodes other x)) is in
         subst (λ (y : WritePlace). IsLeftAlone p q other y ⊎ ((place' : WritePlace) × (q.writes other ≡ Some place') × IsDisturbed before y place')) same_place
         (⊎_elim
@@ -249,18 +245,17 @@ module _ (space : Namespace) (settings : MemSettings) (last : LastAnswer) (failu
 
     writes_at : WritesAt link p q
     writes_at = record {
-      records = record { names = λ path. refl; table = λ id. refl; active = refl; defaults = refl; reads = slot_stays (λ l. read_place) s s' link (Some (links.Write v)) (Some (links.Write w)) was updates refl };
+      records = record { names = λ path. refl; table = λ id. refl; active = refl; defaults = refl; reads = λ l. ap read_place (updates.reads l) };
       held = λ write is. subst (λ (y : WritePlace). (node : List ℕ) (id : ℕ) → (y.block ≡ id → Contains y.nodes node → ⊥) → q.held node id ≡ p.held node id) (from_before write is) held_stays;
-      none = λ other apart is. none_at other (slab.get s other) (updates.others other apart) is;
+      none = λ other apart is. none_at other (write_at s other) (updates.others other apart) is;
       others = λ write is other place apart there.
           subst (λ (y : WritePlace). IsLeftAlone p q other place ⊎ ((place' : WritePlace) × (q.writes other ≡ Some place') × IsDisturbed y place place')) (from_before write is)
-          (at_others other (slab.get s other) place apart (updates.others other apart) there);
+          (at_others other (write_at s other) place apart (updates.others other apart) there);
     }
       where
-        none_at : (other : ℕ) (slot : Option MemLink) → slab.get s' other ≡ slot → write_place nodes other slot ≡ None → q.writes other ≡ None
+        none_at : (other : ℕ) (slot : Option MemWrite) → write_at s' other ≡ slot → write_place nodes other slot ≡ None → q.writes other ≡ None
         none_at other None now is = ap (write_place nodes' other) now
-        none_at other (Some (links.Read read)) now is = ap (write_place nodes' other) now
-        none_at other (Some (links.Write x)) now is = absurd (cc)
+        none_at other (Some x) now is = absurd (cc)
 
     moves_on : MovesOn before after
     moves_on = record {
@@ -317,8 +312,8 @@ module _ (space : Namespace) (settings : MemSettings) (last : LastAnswer) (failu
           later = later;
           last = refl;
           calls = same_namenodes settings failures faults faults' fall.asks;
-          reads = slot_stays (λ l. read_told) s s' link (Some (links.Write v)) (Some (links.Write w)) was updates refl;
-          places = λ l is. slot_stays (λ l. read_place) s s' link (Some (links.Write v)) (Some (links.Write w)) was updates refl l;
+          reads = λ l. ap read_told (updates.reads l);
+          places = λ l is. ap read_place (updates.reads l);
         };
         others = λ l apart. ap write_told (updates.others l apart);
         picture = inr writes_at;
@@ -328,30 +323,17 @@ module _ (space : Namespace) (settings : MemSettings) (last : LastAnswer) (failu
       sent = sends;
     }
 
--- the same of a slot
-pub sent_on : (space : Namespace) (settings : MemSettings) (last : LastAnswer) (failures : ℕ) (loaded : List Line) (faults faults' : FaultPlan) (nodes nodes' : Datanodes) (s s' : Slab MemLink) (link : ℕ) (packet : Outgoing) (o o' : MemLink)
-    → slab.get s link ≡ Some o → Updates s s' link (Some o') → OnWrites (λ v w. SendsOn link packet false (among nodes faults v) (among nodes' faults' w)) o o'
+-- a packet was sent, with all that it is sent on with
+pub sent_on : (space : Namespace) (settings : MemSettings) (last : LastAnswer) (failures : ℕ) (loaded : List Line) (faults faults' : FaultPlan) (nodes nodes' : Datanodes) (s s' : MemLinks) (link : ℕ) (packet : Outgoing) (v w : MemWrite)
+    → write_at s link ≡ Some v → ChangesWrite s s' link (Some w) → SendsOn link packet false (among nodes faults v) (among nodes' faults' w)
     → Sent (shown_at space settings last failures loaded faults nodes s) link packet (shown_at space settings last failures loaded faults' nodes' s')
-sent_on space settings last failures loaded faults faults' nodes nodes' s s' link packet (links.Write v) (links.Write w) was updates h =
+sent_on space settings last failures loaded faults faults' nodes nodes' s s' link packet v w was updates h =
     sent_packet space settings last failures loaded faults faults' (falls_counts faults faults' (sends_to (first_uuid v)) false h.1) nodes nodes' s s' link w updates v packet was h.0.same h.0.sent h.0.puts
-sent_on space settings last failures loaded faults faults' nodes nodes' s s' link packet (links.Write v) (links.Read w) was updates h = absurd h
-sent_on space settings last failures loaded faults faults' nodes nodes' s s' link packet (links.Read v) (links.Read w) was updates h = absurd h
-sent_on space settings last failures loaded faults faults' nodes nodes' s s' link packet (links.Read v) (links.Write w) was updates h = absurd h
 
--- the connection broke in place of a packet of a slot
-pub broke_on : (space : Namespace) (settings : MemSettings) (last : LastAnswer) (failures : ℕ) (loaded : List Line) (faults faults' : FaultPlan) (nodes nodes' : Datanodes) (s s' : Slab MemLink) (link : ℕ) (packet : Outgoing) (o o' : MemLink)
-    → slab.get s link ≡ Some o → Updates s s' link (Some o') → OnWrites (λ v w. SendsOn link packet true (among nodes faults v) (among nodes' faults' w)) o o'
+-- the connection broke in place of a packet
+pub broke_on : (space : Namespace) (settings : MemSettings) (last : LastAnswer) (failures : ℕ) (loaded : List Line) (faults faults' : FaultPlan) (nodes nodes' : Datanodes) (s s' : MemLinks) (link : ℕ) (packet : Outgoing) (v w : MemWrite)
+    → write_at s link ≡ Some v → ChangesWrite s s' link (Some w) → SendsOn link packet true (among nodes faults v) (among nodes' faults' w)
     → NotSent (shown_at space settings last failures loaded faults nodes s) link packet link_faults.Broken (shown_at space settings last failures loaded faults' nodes' s')
-broke_on space settings last failures loaded faults faults' nodes nodes' s s' link packet (links.Write v) (links.Write w) was updates h =
+broke_on space settings last failures loaded faults faults' nodes nodes' s s' link packet v w was updates h =
     broke_off_sent space settings last failures loaded faults faults' (falls_counts faults faults' (sends_to (first_uuid v)) true h.1) nodes nodes' s s' h.0.held
-    (links_from_write s s' link v w was updates h.0.same.setup h.0.same.base h.0.sent h.0.same.responses h.0.same.acknowledged) link packet v was (rose_counts faults faults' calls.Send (first_uuid v) h.1)
-broke_on space settings last failures loaded faults faults' nodes nodes' s s' link packet (links.Write v) (links.Read w) was updates h = absurd h
-broke_on space settings last failures loaded faults faults' nodes nodes' s s' link packet (links.Read v) (links.Read w) was updates h = absurd h
-broke_on space settings last failures loaded faults faults' nodes nodes' s s' link packet (links.Read v) (links.Write w) was updates h = absurd h
-
--- then no packet was sent
-pub broke_unsent : (link : ℕ) (packet : Outgoing) (nodes nodes' : Datanodes) (faults faults' : FaultPlan) (o o' : MemLink) → OnWrites (λ v w. SendsOn link packet true (among nodes faults v) (among nodes' faults' w)) o o' → OnWrites (UnsentOn nodes nodes') o o'
-broke_unsent link packet nodes nodes' faults faults' (links.Write v) (links.Write w) h = h.0
-broke_unsent link packet nodes nodes' faults faults' (links.Write v) (links.Read w) h = absurd h
-broke_unsent link packet nodes nodes' faults faults' (links.Read v) (links.Read w) h = absurd h
-broke_unsent link packet nodes nodes' faults faults' (links.Read v) (links.Write w) h = absurd h
+    (links_unsent nodes nodes' s s' link v w was updates h.0) link packet v was (rose_counts faults faults' calls.Send (first_uuid v) h.1)

@@ -1,7 +1,6 @@
 -- What the active namenode answers to a writer.
 use Rattle.std.proofs.Common.{◌≡◌, ◌⊎◌, ⊎_elim, inl, inr, ℕ, ◌<◌, ◌≤◌, min, Bool, true, false, cond, List, [], length, Option, Some, None, Ok, Err, refl, sym, ap, subst, arith}
 use Rattle.std.specs.BTreeMap.{get_by_text}
-use Rattle.slab.specs.Slab.{Slab}
 use Rattle.hdfs_cluster.specs.declared.asks.Ask.TheVariants as asks
 use Rattle.hdfs_cluster.specs.declared.asks.Answer.TheVariants as answers
 use Rattle.hdfs_cluster.specs.declared.asks.AskFault.{AskFault}
@@ -23,7 +22,7 @@ use Rattle.hdfs_cluster.specs.Sending.{uuids}
 use Rattle.hdfs_mem_faults.specs.Series.{uuid_of}
 use Rattle.hdfs_mem_namenode.specs.declared.namespace.Namespace.{Namespace}
 use Rattle.hdfs_mem_datanodes.specs.declared.datanodes.Datanodes.{Datanodes}
-use Rattle.hdfs_mem_cluster.specs.declared.mem_link.MemLink.{MemLink}
+use Rattle.hdfs_mem_cluster.specs.declared.mem_links.MemLinks.{MemLinks}
 use Rattle.hdfs_mem_namenode.specs.Answering.{Answers, StandsForStray, StandsForWritten}
 use Rattle.hdfs_mem_namenode.specs.Adding.{AddsLast, GivesLast, MayBeGivenUp, TakesOrNot, places, with_open}
 use Rattle.hdfs_mem_namenode.specs.Spaces.{space_of}
@@ -39,7 +38,7 @@ use Rattle.hdfs_mem_cluster.specs.MemShown.{picture_at}
 abbrev pub SameSpace : Namespace → Namespace → Type 0
 SameSpace space space' = ((path : List ℕ) → get_by_text space'.names path ≡ get_by_text space.names path) × (space'.table ≡ space.table)
 
-module _ (space space' : Namespace) (nodes : Datanodes) (settings : MemSettings) (links : Slab MemLink) where
+module _ (space space' : Namespace) (nodes : Datanodes) (settings : MemSettings) (links : MemLinks) where
   abbrev p : Picture
   p = picture_at space nodes settings links
 

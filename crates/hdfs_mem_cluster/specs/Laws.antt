@@ -9,7 +9,6 @@ use Rattle.hdfs_names.specs.Paths.{root}
 use Rattle.hdfs_cluster.specs.Picture.{Picture}
 use Rattle.hdfs_cluster.specs.Stores.{Agrees, AgreesAt}
 use Rattle.hdfs_mem_cluster.specs.declared.mem_cluster.MemCluster.{MemCluster}
-use Rattle.slab.specs.Slab as slab
 use Rattle.hdfs_cluster.specs.declared.picture.OpenWrite.{OpenWrite}
 use Rattle.hdfs_cluster.specs.declared.store.Line.{Line}
 use Rattle.std.specs.BTreeMap.{get_by_text}
@@ -20,9 +19,8 @@ use Rattle.hdfs_mem_namenode.proofs.Keys.{texts_at}
 use Rattle.hdfs_cluster.specs.Pipes.{IsPlaceOf, ShowsWrites}
 use Rattle.hdfs_cluster.specs.Sending.{WritePlace}
 use Rattle.hdfs_mem_datanodes.specs.declared.datanodes.Datanodes.{Datanodes}
-use Rattle.hdfs_mem_cluster.specs.declared.mem_link.MemLink.{MemLink}
-use Rattle.hdfs_mem_cluster.specs.declared.mem_link.MemLink.TheVariants as links
-use Rattle.hdfs_mem_cluster.specs.Links.{write_told, write_place}
+use Rattle.hdfs_mem_cluster.specs.declared.write_link.MemWrite.{MemWrite}
+use Rattle.hdfs_mem_cluster.specs.Links.{write_at, write_told, write_place}
 use Rattle.hdfs_mem_cluster.specs.Writes.{told_of, place_of}
 use Rattle.hdfs_mem_namenode.specs.Memory.{is_bare_at, is_nil}
 use Rattle.hdfs_mem_cluster.specs.MemShown.{picture_of, shown_of, is_fresh_of}
@@ -34,17 +32,16 @@ told_picture m p told = ap (λ (o : Option Picture). unwrap_or o p) told
 pub active_law : (m : MemCluster) (p : Picture) → (shown_of m).picture ≡ Some p → p.active < (shown_of m).namenodes
 active_law m p told = subst (λ (q : Picture). q.active < m.config.settings.namenodes) (told_picture m p told) m.config.active_below
 
-shown_write : (nodes : Datanodes) (link : ℕ) (slot : Option MemLink) (write : OpenWrite) → write_told slot ≡ Some write
+shown_write : (nodes : Datanodes) (link : ℕ) (slot : Option MemWrite) (write : OpenWrite) → write_told slot ≡ Some write
     → (place : WritePlace) × (write_place nodes link slot ≡ Some place) × IsPlaceOf write place
 shown_write nodes link None write is = absurd (cc)
-shown_write nodes link (Some (links.Read read)) write is = absurd (cc)
-shown_write nodes link (Some (links.Write open_link)) write is =
+shown_write nodes link (Some open_link) write is =
     let same : told_of open_link ≡ write = ap (λ (o : Option OpenWrite). unwrap_or o (told_of open_link)) is in
     (place_of nodes link open_link, refl, subst (λ (w : OpenWrite). IsPlaceOf w (place_of nodes link open_link)) same (record { block = refl; nodes = refl }))
 
 -- the picture shows each open write link
 pub writes_law : (m : MemCluster) (p : Picture) → (shown_of m).picture ≡ Some p → ShowsWrites (shown_of m) p
-writes_law m p told = subst (λ (q : Picture). ShowsWrites (shown_of m) q) (told_picture m p told) (λ link write is. shown_write m.nodes link (slab.get m.links link) write is)
+writes_law m p told = subst (λ (q : Picture). ShowsWrites (shown_of m) q) (told_picture m p told) (λ link write is. shown_write m.nodes link (write_at m.links link) write is)
 
 pub is_nil-map : {X Y : Type 0} (f : X → Y) (xs : List X) → is_nil (map f xs) ≡ is_nil xs
 is_nil-map f [] = refl

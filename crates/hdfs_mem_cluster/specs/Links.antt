@@ -1,7 +1,6 @@
 -- What the links of a cluster in memory show.
-use Rattle.std.specs.Prelude.{◌≡◌, ◌≢◌, ℕ, ℤ, pos, ◌+◌, ◌<◌, ◌≤◌, Bool, true, false, List, [], ◌∷◌, ◌++◌, length, slice_index_or, Option, Some, None, Result, Ok, Err}
+use Rattle.std.specs.Prelude.{◌≡◌, ◌≢◌, ℕ, ℤ, pos, ◌+◌, ◌≤◌, Bool, true, false, List, [], ◌∷◌, ◌++◌, length, slice_index_or, Option, Some, None, Result, Ok, Err}
 use Rattle.slab.specs.Slab as slab
-use Rattle.slab.specs.Slab.{Slab}
 use Rattle.hdfs_wire.specs.declared.ack.Ack.{Ack}
 use Rattle.hdfs_wire.specs.declared.read_packet.ReadPacket.{ReadPacket}
 use Rattle.hdfs_wire.specs.Outgoing.{Outgoing}
@@ -19,8 +18,7 @@ use Rattle.hdfs_mem_faults.specs.Calls.{next_kind}
 use Rattle.hdfs_mem_faults.specs.Plans.{calls_of, fails_at, node_faults_of, packet_kind, Counts, SameLinks, TakesAck}
 use Rattle.hdfs_mem_faults.specs.Series.{reads_of, sends_to}
 use Rattle.hdfs_mem_datanodes.specs.declared.datanodes.Datanodes.{Datanodes}
-use Rattle.hdfs_mem_cluster.specs.declared.mem_link.MemLink.{MemLink}
-use Rattle.hdfs_mem_cluster.specs.declared.mem_link.MemLink.TheVariants as links
+use Rattle.hdfs_mem_cluster.specs.declared.mem_links.MemLinks.{MemLinks}
 use Rattle.hdfs_mem_cluster.specs.declared.read_link.MemRead.{MemRead}
 use Rattle.hdfs_mem_cluster.specs.declared.write_link.MemWrite.{MemWrite}
 use Rattle.hdfs_mem_datanodes.specs.Nodes.{SameHeld}
@@ -28,61 +26,58 @@ use Rattle.hdfs_mem_cluster.specs.Slices.{Comes}
 use Rattle.hdfs_mem_cluster.specs.Telling.{GoesOn, TellsAll}
 use Rattle.hdfs_mem_cluster.specs.Writes.{told_of, place_of, SameWrite, PutsPacket}
 
--- what is told of a read link
-abbrev pub read_told : Option MemLink → Option OpenRead
+-- the read with this number
+abbrev pub read_at : MemLinks → ℕ → Option MemRead
+read_at links link = slab.get links.reads link
+
+-- the write with this number: numbers of reads and of writes are two things
+abbrev pub write_at : MemLinks → ℕ → Option MemWrite
+write_at links link = slab.get links.writes link
+
+-- what is told of a read
+abbrev pub read_told : Option MemRead → Option OpenRead
 read_told None = None
-read_told (Some (links.Read read)) = Some read.told
-read_told (Some (links.Write write)) = None
+read_told (Some read) = Some read.told
 
 -- what the picture shows of it
-abbrev pub read_place : Option MemLink → Option ReadPlace
+abbrev pub read_place : Option MemRead → Option ReadPlace
 read_place None = None
-read_place (Some (links.Read read)) = Some read.place
-read_place (Some (links.Write write)) = None
+read_place (Some read) = Some read.place
 
--- what is told of a write link
-abbrev pub write_told : Option MemLink → Option OpenWrite
+-- what is told of a write
+abbrev pub write_told : Option MemWrite → Option OpenWrite
 write_told None = None
-write_told (Some (links.Read read)) = None
-write_told (Some (links.Write write)) = Some (told_of write)
+write_told (Some write) = Some (told_of write)
 
 -- what the picture shows of it
-abbrev pub write_place : Datanodes → ℕ → Option MemLink → Option WritePlace
+abbrev pub write_place : Datanodes → ℕ → Option MemWrite → Option WritePlace
 write_place nodes link None = None
-write_place nodes link (Some (links.Read read)) = None
-write_place nodes link (Some (links.Write write)) = Some (place_of nodes link write)
+write_place nodes link (Some write) = Some (place_of nodes link write)
 
--- a link is a read for which this holds
-abbrev pub OnRead : (MemRead → Type 0) → MemLink → Type 0
-OnRead P (links.Read read) = P read
-OnRead P (links.Write write) = ⊥
+-- one number has this read now, and all other links stay
+pub record ChangesRead (old new : MemLinks) (link : ℕ) (read : Option MemRead) : Type 0 where
+  pub changed : read_at new link ≡ read
+  pub others : (l : ℕ) → l ≢ link → read_at new l ≡ read_at old l
+  pub writes : (l : ℕ) → write_at new l ≡ write_at old l
 
--- it was a read, is one, and this holds of both
-abbrev pub OnReads : (MemRead → MemRead → Type 0) → MemLink → MemLink → Type 0
-OnReads P (links.Read old) (links.Read new) = P old new
-OnReads P (links.Read old) (links.Write new) = ⊥
-OnReads P (links.Write old) (links.Read new) = ⊥
-OnReads P (links.Write old) (links.Write new) = ⊥
+-- the same of a write
+pub record ChangesWrite (old new : MemLinks) (link : ℕ) (write : Option MemWrite) : Type 0 where
+  pub changed : write_at new link ≡ write
+  pub others : (l : ℕ) → l ≢ link → write_at new l ≡ write_at old l
+  pub reads : (l : ℕ) → read_at new l ≡ read_at old l
 
--- the same of write links
-abbrev pub OnWrite : (MemWrite → Type 0) → MemLink → Type 0
-OnWrite P (links.Read read) = ⊥
-OnWrite P (links.Write write) = P write
-
--- the same of two write links
-abbrev pub OnWrites : (MemWrite → MemWrite → Type 0) → MemLink → MemLink → Type 0
-OnWrites P (links.Write old) (links.Write new) = P old new
-OnWrites P (links.Write old) (links.Read new) = ⊥
-OnWrites P (links.Read old) (links.Read new) = ⊥
-OnWrites P (links.Read old) (links.Write new) = ⊥
+-- no link changes
+pub record KeepsLinks (old new : MemLinks) : Type 0 where
+  pub reads : (l : ℕ) → read_at new l ≡ read_at old l
+  pub writes : (l : ℕ) → write_at new l ≡ write_at old l
 
 -- when the read was opened its datanode had failed no more often than now
 abbrev pub IsEarlier : FaultPlan → OpenRead → Type 0
 IsEarlier faults read = read.before ≤ node_faults_of faults read.ask.node.datanode_uuid
 
 -- that holds of each read that is open
-abbrev pub AreEarlier : Slab MemLink → FaultPlan → Type 0
-AreEarlier links faults = (link : ℕ) (read : OpenRead) → read_told (slab.get links link) ≡ Some read → IsEarlier faults read
+abbrev pub AreEarlier : MemLinks → FaultPlan → Type 0
+AreEarlier links faults = (link : ℕ) (read : OpenRead) → read_told (read_at links link) ≡ Some read → IsEarlier faults read
 
 -- no packet is planned to be refused
 abbrev pub NeverRefuses : FaultPlan → Type 0
@@ -152,10 +147,6 @@ SendsOn link packet false old new =
     SentOn link packet old.nodes new.nodes old.write new.write × Counts old.faults (sends_to (first_uuid old.write)) false new.faults
 SendsOn link packet true old new =
     UnsentOn old.nodes new.nodes old.write new.write × Counts old.faults (sends_to (first_uuid old.write)) true new.faults
-
--- a packet waits for its acknowledgement
-abbrev pub IsDueOn : MemWrite → Type 0
-IsDueOn write = write.acknowledged < length write.sent.items
 
 -- the seqno of the packet that is due
 abbrev pub due_of : MemWrite → Outgoing → ℤ

@@ -1,8 +1,6 @@
 -- What the cluster in memory shows.
 use Rattle.std.specs.Prelude.{◌≡◌, ℕ, ◌+◌, ◌-◌, ◌^◌, ◌<◌, ◌==◌, min, nat_lt, Bool, true, not, ◌&&◌, List, length, slice_index, map, Some, is_some, if◌then◌else◌}
 use Rattle.std.specs.BTreeMap.{get_by_text}
-use Rattle.slab.specs.Slab as slab
-use Rattle.slab.specs.Slab.{Slab}
 use Rattle.hdfs_cluster.specs.declared.store.Line.{Line}
 use Rattle.hdfs_cluster.specs.declared.mem_settings.MemSettings.{MemSettings}
 use Rattle.hdfs_mem_faults.specs.declared.fault_plan.FaultPlan.{FaultPlan}
@@ -14,23 +12,23 @@ use Rattle.hdfs_cluster.specs.Shown.{Loaded, Shown}
 use Rattle.hdfs_mem_namenode.specs.declared.namespace.Namespace.{Namespace}
 use Rattle.hdfs_mem_datanodes.specs.declared.datanodes.Datanodes.{Datanodes}
 use Rattle.hdfs_mem_cluster.specs.declared.mem_cluster.MemCluster.{MemCluster}
-use Rattle.hdfs_mem_cluster.specs.declared.mem_link.MemLink.{MemLink}
+use Rattle.hdfs_mem_cluster.specs.declared.mem_links.MemLinks.{MemLinks}
 use Rattle.hdfs_mem_cluster.specs.declared.counts.Counts.{Counts as SeenCounts}
 use Rattle.hdfs_mem_cluster.specs.Lines.{line_of}
-use Rattle.hdfs_mem_cluster.specs.Links.{read_told, read_place, write_told, write_place}
+use Rattle.hdfs_mem_cluster.specs.Links.{read_at, read_told, read_place, write_at, write_told, write_place}
 use Rattle.hdfs_mem_namenode.specs.Memory.{table_of, is_nil}
 use Rattle.hdfs_mem_datanodes.specs.Nodes.{node_at, held_in}
 
 -- the picture of these names, blocks, bytes and links
-abbrev pub picture_at : Namespace → Datanodes → MemSettings → Slab MemLink → Picture
+abbrev pub picture_at : Namespace → Datanodes → MemSettings → MemLinks → Picture
 picture_at space nodes settings links = record {
   names = λ path. get_by_text space.names path;
   table = λ id. table_of space.table.entries id;
   held = λ node id. held_in nodes node id;
   active = settings.active;
   defaults = settings.defaults;
-  reads = λ link. read_place (slab.get links link);
-  writes = λ link. write_place nodes link (slab.get links link);
+  reads = λ link. read_place (read_at links link);
+  writes = λ link. write_place nodes link (write_at links link);
 }
 
 -- what was loaded into a cluster with these settings
@@ -66,8 +64,8 @@ shown_of m = record {
   counts = counts_at m.config.settings m.calls m.faults;
   last = m.last;
   namenodes = m.config.settings.namenodes;
-  reads = λ link. read_told (slab.get m.links link);
-  writes = λ link. write_told (slab.get m.links link);
+  reads = λ link. read_told (read_at m.links link);
+  writes = λ link. write_told (write_at m.links link);
   loaded = loaded_at m.config.settings (map line_of m.loaded.items);
 }
 

@@ -2,7 +2,6 @@
 use Rattle.std.specs.Prelude.{◌≡◌, ◌⊎◌, ℕ, Bool, true, false, ◌&&◌, ◌||◌, List, [], Option, Some, None, is_some, Result, Ok, Err, IfOk, codes, if◌then◌else◌}
 use Rattle.std.specs.List.{list_any}
 use Rattle.std.specs.Str.{bytes_eq}
-use Rattle.slab.specs.Slab.{Slab}
 use Rattle.hdfs_cluster.specs.declared.asks.Ask.{Ask}
 use Rattle.hdfs_cluster.specs.declared.asks.Ask.TheVariants as asks
 use Rattle.hdfs_cluster.specs.declared.asks.Answer.{Answer}
@@ -20,7 +19,7 @@ use Rattle.hdfs_mem_faults.specs.Calls.{after_one}
 use Rattle.hdfs_mem_faults.specs.Series.{is_fault}
 use Rattle.hdfs_mem_namenode.specs.declared.namespace.Namespace.{Namespace}
 use Rattle.hdfs_mem_datanodes.specs.declared.datanodes.Datanodes.{Datanodes}
-use Rattle.hdfs_mem_cluster.specs.declared.mem_link.MemLink.{MemLink}
+use Rattle.hdfs_mem_cluster.specs.declared.mem_links.MemLinks.{MemLinks}
 use Rattle.hdfs_mem_namenode.specs.Answering.{Answers, AnswersAbout, no_such_method, space_in}
 use Rattle.hdfs_mem_namenode.specs.Pipelines.{AreBarred, LacksPlace, is_barred}
 use Rattle.hdfs_mem_cluster.specs.MemShown.{picture_at}
@@ -79,7 +78,7 @@ StandsForOther ask result = (result ≡ other_answer ask) ⊎ (result ≡ Err fa
 -- The active namenode answers so, with this effect on the names and the blocks, whatever the datanodes hold and whichever links
 -- are open.
 abbrev pub AnswersHere : Namespace → Ask → Result Answer AskFault → Namespace → Type 0
-AnswersHere old ask result new = (nodes : Datanodes) (settings : MemSettings) (links : Slab MemLink) (i : ℕ) → i ≡ settings.active
+AnswersHere old ask result new = (nodes : Datanodes) (settings : MemSettings) (links : MemLinks) (i : ℕ) → i ≡ settings.active
     → Answers (picture_at old nodes settings links) i ask result (picture_at new nodes settings links)
 
 -- the class of the exception of a namenode that finds no datanode
@@ -126,13 +125,13 @@ Responds loaded count p i ask result q = Answers p i ask result q ⊎ Fails load
 -- the same of the active namenode, whatever the datanodes hold and whichever links are open
 abbrev pub RespondsHere : List Line → ℕ → Namespace → Ask → Result Answer AskFault → Type 0
 RespondsHere loaded count space ask result =
-    (nodes : Datanodes) (settings : MemSettings) (links : Slab MemLink) (i : ℕ) → i ≡ settings.active
+    (nodes : Datanodes) (settings : MemSettings) (links : MemLinks) (i : ℕ) → i ≡ settings.active
     → Responds loaded count (picture_at space nodes settings links) i ask result (picture_at space nodes settings links)
 
 -- the same where names and blocks may change, beside these datanodes
 abbrev pub RespondsBeside : List Line → Datanodes → Namespace → Ask → Result Answer AskFault → Namespace → Type 0
 RespondsBeside loaded nodes old ask result new =
-    (settings : MemSettings) (links : Slab MemLink) (i : ℕ) → i ≡ settings.active
+    (settings : MemSettings) (links : MemLinks) (i : ℕ) → i ≡ settings.active
     → Responds loaded nodes.count (picture_at old nodes settings links) i ask result (picture_at new nodes settings links)
 
 -- there was memory for an ask, and so it is counted

@@ -9,7 +9,6 @@ ghost use Rattle.hdfs_mem_cluster.specs.Failures.{planned_transfer_failure};
 
 use crate::known::Known;
 use crate::mem_cluster::MemCluster;
-use crate::mem_link::MemLink;
 use crate::planned_asks::{answer, failures_after};
 use crate::read_link::MemRead;
 use crate::set_up::enter;
@@ -107,13 +106,13 @@ impl Cluster for MemCluster {
         let before = self.faults.node_faults(uuid);
         let base = self.nodes.read(self.alloc, uuid, ask.block.block_id)?;
         let read = MemRead::open(self.alloc, ask, before, base, self.config.chunk)?;
-        let link = self.links.insert(MemLink::Read(read))?;
+        let link = self.links.reads.insert(read)?;
         self.faults.open(uuid);
         Ok(link as u64)
     }
 
     fn checksums(&self, link: u64) -> Option<ChecksumInfo> {
-        let Some(MemLink::Read(read)) = self.links.get(link as usize) else {
+        let Some(read) = self.links.reads.get(link as usize) else {
             unreachable!();
         };
         read.told.checksums
@@ -127,10 +126,10 @@ impl Cluster for MemCluster {
         // A fault line acts at exactly its packet.
         ensures asks { IfSome ((shown_of self.old).reads link) (λ told. AsksPacket self.old link told result self.new) }
     {
-        let Some(open) = self.links.get_mut(link as usize) else {
+        let Some(read) = self.links.reads.get_mut(link as usize) else {
             unreachable!();
         };
-        open.give(self.alloc, &mut self.faults, self.config.limit)
+        read.give(self.alloc, &mut self.faults, self.config.limit)
     }
 
     fn end_read(&mut self, link: u64, _keep: bool) -> bool
@@ -139,7 +138,7 @@ impl Cluster for MemCluster {
         ensures kept { result ≡ false }
         ensures counted { CountsNothing self.old self.new }
     {
-        let ended = self.links.try_remove(link as usize);
+        let ended = self.links.reads.try_remove(link as usize);
         drop(ended);
         false
     }
@@ -153,10 +152,10 @@ impl Cluster for MemCluster {
         // A fault line acts at exactly its set-up.
         ensures asks { AsksSetUp self.old setup result self.new }
     {
-        let link = self.links.vacant_key();
+        let link = self.links.writes.vacant_key();
         let entered = enter(
             self.alloc,
-            &mut self.links,
+            &mut self.links.writes,
             &mut self.nodes,
             &mut self.faults,
             &setup,
@@ -165,7 +164,7 @@ impl Cluster for MemCluster {
         match entered {
             Ok(base) => {
                 let write = MemWrite::new(self.alloc, setup, base);
-                Ok(self.links.insert_reserved(MemLink::Write(write)) as u64)
+                Ok(self.links.writes.insert_reserved(write) as u64)
             }
             Err(fault) => Err(fault),
         }
@@ -180,10 +179,10 @@ impl Cluster for MemCluster {
         ensures asks { IfSome ((shown_of self.old).writes link) (λ write. AsksSend self.old write result self.new) }
         ensures unsent { OnErr result (SamePicture (picture_of self.old) (picture_of self.new)) }
     {
-        let Some(open) = self.links.get_mut(link as usize) else {
+        let Some(write) = self.links.writes.get_mut(link as usize) else {
             unreachable!();
         };
-        if open.send(self.alloc, &mut self.nodes, &mut self.faults, link, packet)? {
+        if write.send(self.alloc, &mut self.nodes, &mut self.faults, link, packet)? {
             return Err(LinkFault::Broken);
         }
         Ok(())
@@ -199,10 +198,10 @@ impl Cluster for MemCluster {
             (λ write. AsksAck self.old link write ack self.new)) }
         ensures counted { OnErr result (CountsNothing self.old self.new) }
     {
-        let Some(open) = self.links.get_mut(link as usize) else {
+        let Some(write) = self.links.writes.get_mut(link as usize) else {
             unreachable!();
         };
-        Ok(open.ack(self.alloc, &mut self.faults, link)?)
+        Ok(write.ack(self.alloc, &mut self.faults, link)?)
     }
 
     fn end_write(&mut self, link: u64)
@@ -212,7 +211,7 @@ impl Cluster for MemCluster {
         ensures counted { CountsNothing self.old self.new }
     {
         self.faults.end(link);
-        let gone = self.links.try_remove(link as usize);
+        let gone = self.links.writes.try_remove(link as usize);
         drop(gone);
     }
 

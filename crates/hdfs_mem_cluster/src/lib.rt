@@ -9,7 +9,7 @@ mod known;
 mod loaded;
 mod loading;
 mod mem_cluster;
-mod mem_link;
+mod mem_links;
 mod planned_asks;
 mod read_link;
 mod responding;

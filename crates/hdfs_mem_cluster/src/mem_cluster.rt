@@ -9,13 +9,12 @@ ghost use Rattle.hdfs_mem_cluster.specs.Links.{AreEarlier};
 
 use crate::config::Config;
 use crate::loaded::Kept;
-use crate::mem_link::MemLink;
+use crate::mem_links::MemLinks;
 use hdfs_cluster::{LastAnswer, MemSettings};
 use hdfs_mem_datanodes::Datanodes;
 use hdfs_mem_faults::FaultPlan;
 use hdfs_mem_namenode::Namespace;
 use hdfs_wire::NoMemory;
-use slab::Slab;
 use std::alloc::Global;
 
 /// A cluster in memory: files, the datanodes that hold their blocks, the open links, how often the active namenode has failed, and
@@ -28,7 +27,7 @@ pub struct MemCluster {
     pub(crate) calls: u64,
     pub(crate) space: Namespace,
     pub(crate) nodes: Datanodes,
-    pub(crate) links: Slab<MemLink>,
+    pub(crate) links: MemLinks,
     pub(crate) faults: FaultPlan,
     pub(crate) loaded: Vec<Kept>,
     ghost follows: { Follows faults (map line_of loaded.items) },
@@ -58,7 +57,7 @@ impl MemCluster {
             calls: 0,
             space: Namespace::new(alloc)?,
             nodes: Datanodes::new(alloc, settings.nodes)?,
-            links: Slab::new(alloc),
+            links: MemLinks::new(alloc),
             faults: FaultPlan::new(alloc, settings.nodes)?,
             loaded: Vec::new(alloc),
         })
@@ -66,7 +65,8 @@ impl MemCluster {
 
     /// How many links are open: those of readers, and those of pipelines. A test asks for it to see that a client has left none.
     pub fn open_links(&self) -> usize {
-        self.links.len()
+        let reads = self.links.reads.len();
+        reads.saturating_add(self.links.writes.len())
     }
 }
 

@@ -1,9 +1,8 @@
 //! How an ask is answered that is planned to fail, or isn't.
 ghost use Rattle.std.specs.Prelude.{◌≡◌, ◌≤◌, true, false, not, ◌&&◌, map, option_copied, IfOk, IsErr, OnOk, OnErr};
-ghost use Rattle.slab.specs.Slab.{Slab};
 ghost use Rattle.hdfs_cluster.specs.Namenode.{IsShaped, last_of};
 ghost use Rattle.hdfs_cluster.specs.Picture.{SamePicture};
-ghost use Rattle.hdfs_mem_cluster.specs.declared.mem_link.MemLink.{MemLink};
+ghost use Rattle.hdfs_mem_cluster.specs.declared.mem_links.MemLinks.{MemLinks};
 ghost use Rattle.hdfs_mem_cluster.specs.Lines.{line_of};
 ghost use Rattle.hdfs_mem_cluster.specs.MemShown.{picture_at};
 ghost use Rattle.hdfs_mem_cluster.specs.Responding.{AskComesTo, DoesPlanned, Responds, failed_after, is_answered, is_failure, own_failure};
@@ -121,7 +120,7 @@ fn do_planned(
     ask: &Ask,
     kind: &AskKind,
 )
-    ensures does { (links : Slab MemLink) → DoesPlanned (map line_of known.now.loaded.now) nodes.old.count kind.now
+    ensures does { (links : MemLinks) → DoesPlanned (map line_of known.now.loaded.now) nodes.old.count kind.now
         (picture_at space.old nodes.old known.now.config.now.settings links) i ask.now
         (picture_at space.new nodes.new known.now.config.now.settings links) }
     ensures rest { SameNodes nodes.old nodes.new }
@@ -148,14 +147,14 @@ fn answer_planned(
     kind: &AskKind,
 ) -> Result<Answered, NoMemory>
     ensures is { IfOk result (λ answered. answered.result ≡ spec.planned_answer kind.now ask.now) }
-    ensures does { OnOk result ((links : Slab MemLink) → DoesPlanned (map line_of known.now.loaded.now) nodes.old.count
+    ensures does { OnOk result ((links : MemLinks) → DoesPlanned (map line_of known.now.loaded.now) nodes.old.count
         kind.now
         (picture_at space.old nodes.old known.now.config.now.settings links) i ask.now
         (picture_at space.new nodes.new known.now.config.now.settings links)) }
     ensures last { IfOk result (λ answered. answered.last ≡ last_of answered.result) }
     ensures failed { IfOk result (λ answered. answered.failed ≡ false) }
     ensures answered { IfOk result (λ answered. is_answered answered.result ≡ true) }
-    ensures err { OnErr result ((links : Slab MemLink)
+    ensures err { OnErr result ((links : MemLinks)
         → SamePicture (picture_at space.old nodes.old known.now.config.now.settings links)
         (picture_at space.new nodes.new known.now.config.now.settings links)) }
     ensures rest { SameNodes nodes.old nodes.new }
@@ -174,7 +173,7 @@ fn answer_unplanned(
     i: u32,
     ask: &Ask,
 ) -> Result<Answered, NoMemory>
-    ensures responds { IfOk result (λ answered. (links : Slab MemLink)
+    ensures responds { IfOk result (λ answered. (links : MemLinks)
         → Responds (map line_of known.now.loaded.now) nodes.old.count
         (picture_at space.old nodes.old known.now.config.now.settings links) i ask.now answered.result
         (picture_at space.new nodes.new known.now.config.now.settings links)) }
@@ -182,7 +181,7 @@ fn answer_unplanned(
     ensures failed { IfOk result (λ answered. answered.failed ≡ is_failure answered.result) }
     ensures answered { IfOk result (λ answered. is_answered answered.result ≡ true) }
     ensures shape { IfOk result (λ answered. IfOk answered.result (IsShaped ask.now)) }
-    ensures err { OnErr result ((links : Slab MemLink)
+    ensures err { OnErr result ((links : MemLinks)
         → SamePicture (picture_at space.old nodes.old known.now.config.now.settings links)
         (picture_at space.new nodes.new known.now.config.now.settings links)) }
     ensures rest { SameNodes nodes.old nodes.new }
@@ -201,7 +200,7 @@ pub(crate) fn answer(
     ask: &Ask,
     kind: Option<&AskKind>,
 ) -> Result<Answered, NoMemory>
-    ensures comes { IfOk result (λ answered. (links : Slab MemLink)
+    ensures comes { IfOk result (λ answered. (links : MemLinks)
         → AskComesTo (map line_of known.now.loaded.now) nodes.old.count (option_copied kind.entry)
         (picture_at space.old nodes.old known.now.config.now.settings links) i ask.now answered.result
         (picture_at space.new nodes.new known.now.config.now.settings links)) }
@@ -210,7 +209,7 @@ pub(crate) fn answer(
         ≡ own_failure (option_copied kind.entry) answered.result) }
     ensures answered { IfOk result (λ answered. is_answered answered.result ≡ true) }
     ensures shape { IfOk result (λ answered. IfOk answered.result (IsShaped ask.now)) }
-    ensures err { OnErr result ((links : Slab MemLink)
+    ensures err { OnErr result ((links : MemLinks)
         → SamePicture (picture_at space.old nodes.old known.now.config.now.settings links)
         (picture_at space.new nodes.new known.now.config.now.settings links)) }
     ensures rest { SameNodes nodes.old nodes.new }

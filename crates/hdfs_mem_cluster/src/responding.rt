@@ -3,8 +3,7 @@ ghost use Rattle.std.specs.Prelude.{◌≡◌, ℕ, map, false, IfOk};
 ghost use Rattle.std.specs.List.{list_any};
 ghost use Rattle.hdfs_cluster.specs.Namenode.{IsShaped};
 ghost use Rattle.hdfs_mem_namenode.specs.Answering.{is_about_names as about};
-ghost use Rattle.slab.specs.Slab.{Slab};
-ghost use Rattle.hdfs_mem_cluster.specs.declared.mem_link.MemLink.{MemLink};
+ghost use Rattle.hdfs_mem_cluster.specs.declared.mem_links.MemLinks.{MemLinks};
 ghost use Rattle.hdfs_mem_faults.specs.Series.{is_fault};
 ghost use Rattle.hdfs_mem_cluster.specs.Lines.{line_of};
 ghost use Rattle.hdfs_mem_cluster.specs.MemShown.{picture_at};
@@ -234,7 +233,7 @@ pub(crate) fn respond(
     i: u32,
     ask: &Ask,
 ) -> Result<Answer, AskFault>
-    ensures responds { (links : Slab MemLink) → Responds (map line_of known.now.loaded.now) nodes.old.count
+    ensures responds { (links : MemLinks) → Responds (map line_of known.now.loaded.now) nodes.old.count
         (picture_at space.old nodes.old known.now.config.now.settings links) i ask.now result
         (picture_at space.new nodes.new known.now.config.now.settings links) }
     ensures shape { IfOk result (IsShaped ask.now) }

@@ -6,7 +6,7 @@ ghost use Rattle.hdfs_cluster.specs.declared.messages.Stage.TheVariants as stage
 ghost use Rattle.hdfs_mem_cluster.specs.SettingUp.{CountsSetUp, blamed, blamed_at};
 ghost use Rattle.hdfs_mem_datanodes.specs.Nodes.{held_in, undisturbed_in, is_named, SameNodes};
 
-use crate::mem_link::MemLink;
+use crate::write_link::MemWrite;
 use hdfs_cluster::{DatanodeInfo, LinkFault, LinkKind, Setup, Stage};
 use hdfs_mem_datanodes::{Datanodes, Held};
 use hdfs_mem_faults::FaultPlan;
@@ -51,14 +51,14 @@ fn blamed(setup: &Setup) -> Option<&Text>
 /// its set-up is counted and fails as it is planned to.
 pub(crate) fn enter(
     alloc: Global,
-    links: &mut Slab<MemLink>,
+    writes: &mut Slab<MemWrite>,
     nodes: &mut Datanodes,
     faults: &mut FaultPlan,
     setup: &Setup,
     link: u64,
 ) -> Result<Vec<Held>, LinkFault>
-    ensures room { OnOk result (HasRoomFor links.new 1) }
-    ensures slots { links.new ≡ record links.old { capacity = links.new.capacity } }
+    ensures room { OnOk result (HasRoomFor writes.new 1) }
+    ensures slots { writes.new ≡ record writes.old { capacity = writes.new.capacity } }
     ensures base { IfOk result (λ base. base.items
         ≡ map (λ node. held_in nodes.old node.id.datanode_uuid setup.now.block.block_id) setup.now.locs) }
     ensures entered { OnOk result ((d : List ℕ) → is_named setup.now.locs d ≡ true
@@ -70,7 +70,7 @@ pub(crate) fn enter(
     ensures rest { SameNodes nodes.old nodes.new }
 {
     faults.end(link);
-    links.reserve(1)?;
+    writes.reserve(1)?;
     let locs = setup.locs.as_slice();
     let base = nodes.enter_all(alloc, locs, setup.block.block_id, link)?;
     match failure(faults.set_up(alloc, link, blamed(setup))?) {

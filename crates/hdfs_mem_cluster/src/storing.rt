@@ -7,8 +7,7 @@ ghost use Rattle.hdfs_cluster.specs.declared.picture.FileEntry.{FileEntry};
 ghost use Rattle.hdfs_cluster.specs.Files.{State};
 ghost use Rattle.hdfs_cluster.specs.Loading.{with_file};
 ghost use Rattle.hdfs_cluster.specs.Stores.{Agrees};
-ghost use Rattle.slab.specs.Slab.{Slab};
-ghost use Rattle.hdfs_mem_cluster.specs.declared.mem_link.MemLink.{MemLink};
+ghost use Rattle.hdfs_mem_cluster.specs.declared.mem_links.MemLinks.{MemLinks};
 ghost use Rattle.hdfs_mem_namenode.specs.Adding.{IsPlace, AddsBlock, AreNew, KeepsBlocks, Names};
 ghost use Rattle.hdfs_mem_cluster.specs.Cutting.{IsCut};
 ghost use Rattle.hdfs_mem_cluster.specs.MemShown.{picture_at};
@@ -89,7 +88,7 @@ pub(crate) fn store_file(
 ) -> Result<(), NoMemory>
     requires place { IsPlace (get_by_text space.old.names) (string_bytes path) }
     requires numbers { (0 < attributes.now.block_size) × (0 < attributes.now.replication) × (length bytes < 2 ^ 63) }
-    ensures files { OnOk result ((settings : MemSettings) (links : Slab MemLink) (state : State)
+    ensures files { OnOk result ((settings : MemSettings) (links : MemLinks) (state : State)
         → Agrees (Some (picture_at space.old nodes.old settings links)) state.files
         → Agrees (Some (picture_at space.new nodes.new settings links)) (with_file state (string_bytes path)
         (record { bytes = bytes; attributes = attributes.now })).files) }

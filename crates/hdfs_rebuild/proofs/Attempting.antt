@@ -207,7 +207,7 @@ module _ (plan : BlockPlan) (opening : Opening) (client : List ℕ) (replay : Li
           (link_only_trans link n x z (link_only_of-on link n x drifts.on) (link_only_of-ended link x z gone))
 
       fallen_links : KeepsLinks a z
-      fallen_links = keeps_links_by link a z until_ended opened.fresh.write gone.ended
+      fallen_links = keeps_links_by link a z until_ended opened.fresh gone.ended
 
       later_end : Later n z
       later_end = later_trans n x z drifts.on.only.later gone.writes.only.later
@@ -299,7 +299,7 @@ module _ (plan : BlockPlan) (opening : Opening) (client : List ℕ) (replay : Li
     pub names_not : ResumedNot plan a fault z
     names_not = record {
       links =
-          keeps_links_by link a z (link_only_trans link a n z until_asked (link_only_of-ended link n z gone)) opened.fresh.write
+          keeps_links_by link a z (link_only_trans link a n z until_asked (link_only_of-ended link n z gone)) opened.fresh
           gone.ended;
       cause = inl (⊎_elim
           (λ memory. inl memory)
@@ -330,7 +330,7 @@ module _ (plan : BlockPlan) (opening : Opening) (client : List ℕ) (replay : Li
         keeps_links_by link a z
         (link_only_trans link a b z (link_only_of-opened link (setup_for plan opening client) a b opened)
         (link_only_trans link b n z (link_only_of-on link b n stops.on) (link_only_of-ended link n z gone)))
-        opened.fresh.write gone.ended;
+        opened.fresh gone.ended;
     cause = inl (inl refl);
     touches = λ p known told w.
         let p1 = opened_picture plan opening client link core a b to_write windows empty opened p known told w in

@@ -53,7 +53,7 @@ pub opened_seen : (view : View) {setup : Setup} {link : ℕ} {s t : Shown} → W
 opened_seen Whole {setup} {link} {s} {t} h = h
 opened_seen (OfService first count) {setup} {link} {s} {t} h = record {
   only = only_seen (OfService first count) h.only;
-  fresh = record { read = h.fresh.read; write = h.fresh.write };
+  fresh = h.fresh;
   others = h.others;
   opened = h.opened;
   starts = tt;

@@ -213,10 +213,7 @@ module _ (plan0 plan2 plan3 : BlockPlan) (settings : RebuildSettings) (failed : 
       begins =
           subst (λ (x : BlockPlan). Begins (task_of settings client replay unsent) (standing plan0 failed a) x z) (sym stands.plan)
           (begins (stands.later, stands.reads));
-      fresh = record {
-        read = sym (stays_until.reads.links rebuilt.link) ∙ stands.fresh.read;
-        write = sym (stays_until.writes rebuilt.link) ∙ stands.fresh.write;
-      };
+      fresh = sym (stays_until.writes rebuilt.link) ∙ stands.fresh;
       others = λ other apart. stands.others other apart ∙ stays_until.writes other;
       opened = (
         stands.opened.0,

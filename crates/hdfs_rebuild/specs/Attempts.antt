@@ -1,5 +1,5 @@
 -- A pipeline is rebuilt, attempt by attempt.
-use Rattle.std.specs.Prelude.{◌≡◌, ◌≢◌, ◌⊎◌, ℕ, zero, suc, ◌+◌, ◌-◌, ◌<◌, true, false, List, [], ◌∷◌, ◌++◌, length, All, Contains, Some}
+use Rattle.std.specs.Prelude.{◌≡◌, ◌≢◌, ◌⊎◌, ℕ, zero, suc, ◌+◌, ◌-◌, ◌<◌, true, false, List, [], ◌∷◌, ◌++◌, length, All, Contains, Some, None}
 use Rattle.hdfs_wire.specs.Outgoing.{Outgoing}
 use Rattle.hdfs_cluster.specs.declared.errors.HdfsError.TheVariants as errors
 use Rattle.hdfs_cluster.specs.declared.messages.DatanodeInfo.{DatanodeInfo}
@@ -9,7 +9,7 @@ use Rattle.hdfs_cluster.specs.Counts.{Rose}
 use Rattle.hdfs_cluster.specs.Picture.{Picture}
 use Rattle.hdfs_cluster.specs.Pipes.{FollowsOn}
 use Rattle.hdfs_cluster.specs.Sending.{uuids}
-use Rattle.hdfs_cluster.specs.Shown.{Shown, Later, SameReads, IsUnused}
+use Rattle.hdfs_cluster.specs.Shown.{Shown, Later, SameReads}
 use Rattle.hdfs_names.specs.Shown.{shown as policy_of}
 use Rattle.hdfs_pipeline.specs.Driving.{IsGoing}
 use Rattle.hdfs_pipeline.specs.Places.{ArePlaces}
@@ -101,7 +101,7 @@ MissedTimes (suc times) task before after = (between : Standing) × MissedTimes 
 -- carries the bytes, as many as before are safe, and its datanodes are listed for the block.
 pub record Recovered (task : Task) (before : Standing) (rebuilt : BlockPipeline) (new : Shown) : Type 0 where
   pub begins : Begins task before rebuilt.plan new
-  pub fresh : IsUnused rebuilt.link before.shown
+  pub fresh : before.shown.writes rebuilt.link ≡ None
   pub others : (other : ℕ) → other ≢ rebuilt.link → new.writes other ≡ before.shown.writes other
   pub opened : (write : OpenWrite) × (new.writes rebuilt.link ≡ Some write)
       × (write.setup ≡ setup_for rebuilt.plan (opening_of task before.plan) task.client)

@@ -1,5 +1,5 @@
 -- The steps of one attempt to rebuild a pipeline.
-use Rattle.std.specs.Prelude.{◌≡◌, ◌≢◌, ◌⊎◌, ℕ, ℤ, ◌+◌, ◌<◌, List, [], ◌∷◌, ◌++◌, length, slice_index_or, All, Some}
+use Rattle.std.specs.Prelude.{◌≡◌, ◌≢◌, ◌⊎◌, ℕ, ℤ, ◌+◌, ◌<◌, List, [], ◌∷◌, ◌++◌, length, slice_index_or, All, Some, None}
 use Rattle.hdfs_wire.specs.Outgoing.{Outgoing}
 use Rattle.hdfs_cluster.specs.declared.asks.Answer.{Answer}
 use Rattle.hdfs_cluster.specs.declared.asks.Ask.{Ask}
@@ -12,7 +12,7 @@ use Rattle.hdfs_cluster.specs.Picture.{Picture}
 use Rattle.hdfs_cluster.specs.Pipes.{FollowsOn}
 use Rattle.hdfs_cluster.specs.Requests.{IsNamed, IsPipelineOf, IsStamped, LetsWriteBlock, Request}
 use Rattle.hdfs_cluster.specs.Sending.{uuids}
-use Rattle.hdfs_cluster.specs.Shown.{Shown, Later, SameReads, IsUnused}
+use Rattle.hdfs_cluster.specs.Shown.{Shown, Later, SameReads}
 use Rattle.hdfs_pipeline.specs.Driving.{Drove, IsGoing, StopsShort}
 use Rattle.hdfs_pipeline.specs.Pipelines.{Pipeline, Failed, Bad}
 use Rattle.hdfs_pipeline.specs.Places.{ArePlaces}
@@ -97,7 +97,7 @@ pub record StandsAgain (course : Course) (old : Shown) (rebuilt : BlockPipeline)
   pub plan : rebuilt.plan ≡ course.plan
   pub later : Later old new
   pub reads : SameReads old new
-  pub fresh : IsUnused rebuilt.link old
+  pub fresh : old.writes rebuilt.link ≡ None
   pub others : (other : ℕ) → other ≢ rebuilt.link → new.writes other ≡ old.writes other
   pub opened : (write : OpenWrite) × (new.writes rebuilt.link ≡ Some write)
       × (write.setup ≡ setup_for course.plan course.opening course.client)

@@ -1,6 +1,5 @@
 -- Nothing changes but the settings, and datanodes that hold nothing join.
 use Rattle.std.proofs.Common.{◌≡◌, ◌<◌, ℕ, true, not, List, map, refl, sym, ◌∙◌, ap, subst}
-use Rattle.slab.specs.Slab as slab
 use Rattle.hdfs_cluster.specs.declared.mem_settings.MemSettings.{MemSettings}
 use Rattle.hdfs_cluster.proofs.Loads.{and_parts}
 use Rattle.hdfs_mem_faults.specs.declared.fault_plan.FaultPlan.{FaultPlan}
@@ -9,6 +8,7 @@ use Rattle.hdfs_mem_faults.specs.Plans.{AddsNodes}
 use Rattle.hdfs_mem_faults.specs.Series.{AsksOf}
 use Rattle.hdfs_mem_faults.proofs.Following.{added_follows}
 use Rattle.hdfs_mem_datanodes.specs.declared.datanodes.Datanodes.{Datanodes}
+use Rattle.hdfs_mem_cluster.specs.Links.{write_at}
 use Rattle.hdfs_mem_cluster.specs.declared.mem_cluster.MemCluster.{MemCluster}
 use Rattle.hdfs_mem_cluster.specs.Laws.{nil_from_test}
 use Rattle.hdfs_mem_cluster.specs.Lines.{line_of}
@@ -79,7 +79,7 @@ returns-in_err-grow-clause-err c =
         rest = record {
           files = record { names = λ path. refl; table = λ id. refl; held = λ node id. ap held_by ((joins node).replicas id); defaults = refl };
           reads = λ link. refl;
-          writes = λ link. place_same m.nodes c.grow.new.self (same_links m.nodes c.grow.new.self joins) link (slab.get m.links link);
+          writes = λ link. place_same m.nodes c.grow.new.self (same_links m.nodes c.grow.new.self joins) link (write_at m.links link);
         };
         active = refl;
       };
@@ -104,7 +104,7 @@ returns-clause-ok c =
         table = λ id. refl;
         held = λ node id. ap held_by ((joins node).replicas id);
         reads = λ link. refl;
-        writes = λ link. place_same m.nodes c.grow.new.self (same_links m.nodes c.grow.new.self joins) link (slab.get m.links link);
+        writes = λ link. place_same m.nodes c.grow.new.self (same_links m.nodes c.grow.new.self joins) link (write_at m.links link);
       };
     }
 

@@ -22,12 +22,12 @@ returns-clause-starts c = record {
   defaults = ap (λ (s : MemSettings). s.defaults) c.new.ensures;
   no_block = c.in_ok-new.ensures.empty;
   no_bytes = c.in_ok-new-2.ensures.held;
-  no_place = λ link. ap (λ slots. read_place (slice_index_or slots link None)) c.new-4.ensures.empty;
-  no_write_place = λ link. ap (λ slots. write_place c.in_ok-new-2.field-0 link (slice_index_or slots link None)) c.new-4.ensures.empty;
+  no_place = λ link. ap (λ slots. read_place (slice_index_or slots link None)) c.new-4.ensures.reads;
+  no_write_place = λ link. ap (λ slots. write_place c.in_ok-new-2.field-0 link (slice_index_or slots link None)) c.new-4.ensures.writes;
   namenodes = ap (λ (s : MemSettings). s.namenodes) c.new.ensures;
   last = refl;
-  no_read = λ link. ap (λ slots. read_told (slice_index_or slots link None)) c.new-4.ensures.empty;
-  no_write = λ link. ap (λ slots. write_told (slice_index_or slots link None)) c.new-4.ensures.empty;
+  no_read = λ link. ap (λ slots. read_told (slice_index_or slots link None)) c.new-4.ensures.reads;
+  no_write = λ link. ap (λ slots. write_told (slice_index_or slots link None)) c.new-4.ensures.writes;
   no_line = ap (λ (s : MemSettings). loaded_at s (map line_of c.new-6.result.items)) c.new.ensures ∙ ap (λ (xs : List Kept). loaded_at c.args.settings (map line_of xs)) c.new-6.ensures.items;
   asks = λ i. c.in_ok-new-3.ensures.new.calls (AsksOf i);
   calls = λ i. no_namenode_faults c.new.result.settings 0 c.in_ok-new-3.field-0 i (c.in_ok-new-3.ensures.new.asks i) refl;
@@ -58,6 +58,6 @@ invariant_of-result c = record {
   unfailed = λ none. refl;
   follows = subst (λ (xs : List Kept). Follows c.in_ok-new-3.field-0 (map line_of xs)) (sym c.new-6.ensures.items) (new_follows c.in_ok-new-3.field-0 c.in_ok-new-3.ensures.new);
   earlier = λ link read is.
-      (let none : read_told None ≡ Some read = sym (ap (λ slots. read_told (slice_index_or slots link None)) c.new-4.ensures.empty) ∙ is in
+      (let none : read_told None ≡ Some read = sym (ap (λ slots. read_told (slice_index_or slots link None)) c.new-4.ensures.reads) ∙ is in
       absurd (cc));
 }
