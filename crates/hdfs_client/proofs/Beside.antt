@@ -8,7 +8,6 @@ use Rattle.hdfs_cluster.specs.declared.asks.AskFault.{AskFault}
 use Rattle.hdfs_cluster.specs.declared.errors.HdfsError.{HdfsError}
 use Rattle.hdfs_cluster.specs.Repeating.{Leaves}
 use Rattle.hdfs_cluster.specs.Requests.{LetsClose, LetsWrite, Request}
-use Rattle.hdfs_cluster.specs.declared.picture.OpenWrite.{OpenWrite}
 use Rattle.hdfs_cluster.specs.Shown.{Served, Shown}
 use Rattle.hdfs_file_reader.specs.declared.file_blocks.FileBlocks.{FileBlocks}
 use Rattle.hdfs_file_writer.specs.Writers as files
@@ -34,7 +33,7 @@ use Rattle.hdfs_client.specs.declared.file_lease.FileLease.{FileLease}
 use Rattle.hdfs_client.specs.declared.file_reader.FileReader.{FileReader}
 use Rattle.hdfs_client.specs.declared.writing.FileWriter.{FileWriter}
 use Rattle.hdfs_client.proofs.Asking.{same_some}
-use Rattle.hdfs_client.proofs.Written.{OwnLink}
+use Rattle.hdfs_opening.proofs.Written.{OwnLink}
 
 -- a service asks the same namenodes in the same name
 abbrev pub Keeps : NamenodeProtocol → NamenodeProtocol → Type 0
@@ -122,14 +121,6 @@ pub own_left : {C : Type 0} (shown : C → Shown) (old new : C) (file : Option i
 own_left {C} shown old new None shut left =
     subst (λ (c : C). files.OnlyOwnLink (shown old) None (shown c) None) (sym (shut refl)) (own_link_refl (shown old) None)
 own_left {C} shown old new (Some file) shut left = left file refl
-
--- calls in the name of a writer without a link leave all links
-pub own_nothing : {s t : Shown} → OwnLink s None t None → (link : ℕ) → t.writes link ≡ s.writes link
-own_nothing {s} {t} own link = by (s.writes link) refl
-  where
-    by : (o : Option OpenWrite) → s.writes link ≡ o → t.writes link ≡ s.writes link
-    by None closed = own.none link (inl closed) (λ is. absurd (cc is)) ∙ sym closed
-    by (Some write) kept = own.others link (subst IsSome (sym kept) refl) (λ is. absurd (cc is))
 
 module _ {client client' : Client} (services : KeepsServices client client') {s t : Shown} {before after : Option ℕ} (own : OwnLink s before t after)
     (other : FileWriter) (apart : (link : ℕ) → before ≡ Some link → link_of other ≡ Some link → ⊥) (of : IsWriterOf client s other) where

@@ -9,7 +9,7 @@ use Rattle.hdfs_namenode.specs.Asked.{IsServiceOf, SameService}
 use Rattle.hdfs_namenode.specs.Clients.{ChangesLeases, SameButLeases, SameClient, leases_of, proxy_of}
 use Rattle.hdfs_namenode.specs.declared.protocol.NamenodeProtocol.{NamenodeProtocol}
 use Rattle.hdfs_namenode.specs.declared.proxy.NameServiceProxy.{NameServiceProxy}
-use Rattle.hdfs_namenode.proofs.Services.{same_client_refl, same_client_trans, same_service_refl, same_service_trans, service_later}
+use Rattle.hdfs_namenode.proofs.Services.{same_client_trans, same_service_refl, same_service_trans, service_later}
 use Rattle.hdfs_client.specs.Clients.{IsClientOf, SameBut, service_at, services_of}
 use Rattle.hdfs_client.specs.Holding.{ChangesService, GivesBack, GivesLease, MayGive}
 use Rattle.hdfs_client.specs.declared.client.Client.{Client}

@@ -1,6 +1,4 @@
-pub mod Answered
 pub mod Asking
-pub mod Begun
 pub mod Beside
 pub mod Below
 pub mod Building
@@ -14,9 +12,6 @@ pub mod Gathered
 pub mod Given
 pub mod Held
 pub mod Globbed
-pub mod InLimits
-pub mod Kept
-pub mod Known
 pub mod Leading
 pub mod Leased
 pub mod Leave
@@ -26,7 +21,6 @@ pub mod Looked
 pub mod Made
 pub mod Numbers
 pub mod Picked
-pub mod Quiet
 pub mod Renaming
 pub mod Rests
 pub mod SameParts
@@ -37,4 +31,3 @@ pub mod ToldLists
 pub mod ToldPages
 pub mod ToldTurns
 pub mod Turned
-pub mod Written

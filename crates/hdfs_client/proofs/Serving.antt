@@ -11,7 +11,7 @@ use Rattle.hdfs_namenode.specs.declared.protocol.NamenodeProtocol.{NamenodeProto
 use Rattle.hdfs_namenode.proofs.Services.{same_service_refl, service_same}
 use Rattle.hdfs_client.specs.Clients.{IsClientOf, SameBut, addresses_of, leads_to, mounts_of, replacement_of, service_at, services_of}
 use Rattle.hdfs_client.specs.Holding.{KeepsLeases}
-use Rattle.hdfs_client.specs.Opening.{KeepsService}
+use Rattle.hdfs_opening.specs.Opening.{KeepsService}
 use Rattle.hdfs_client.specs.Writing.{FailsAt, OpensAt, lease_of, open_of, service_of}
 use Rattle.hdfs_client.specs.declared.client.Client.{Client}
 use Rattle.hdfs_client.specs.declared.file_lease.FileLease.{FileLease}

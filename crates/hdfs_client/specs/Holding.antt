@@ -1,18 +1,17 @@
 -- The leases of the files that a client writes: one is taken where a file is opened, and given back where it is closed or given up.
 use Rattle.std.specs.Prelude.{◌≡◌, ℕ, ◌+◌, ◌-◌, Bool, true, false, Option, Some, None, unwrap_or}
-use Rattle.hdfs_cluster.specs.declared.messages.FileStatusMsg.{FileStatusMsg}
 use Rattle.hdfs_leases.specs.Leases.{HoldsSame, HoldsSameBut, held, last_of}
 use Rattle.hdfs_leases.specs.declared.file_leases.FileLeases.{FileLeases}
 use Rattle.hdfs_namenode.specs.Clients.{SameButLeases, SameClient, leases_of}
 use Rattle.hdfs_namenode.specs.declared.protocol.NamenodeProtocol.{NamenodeProtocol}
+use Rattle.hdfs_opening.specs.declared.opened_file.ToldFile.{ToldFile}
 use Rattle.hdfs_client.specs.Clients.{SameBut, service_at}
 use Rattle.hdfs_client.specs.declared.client.Client.{Client}
 use Rattle.hdfs_client.specs.declared.file_lease.FileLease.{FileLease}
 
--- the lease of a file of which a status tells: by its id, 0 where none is told, and by the namespace that it stands in
-abbrev pub lease_by : Option FileStatusMsg → FileLease
-lease_by None = record { file_id = 0; namespace = None }
-lease_by (Some status) = record { file_id = unwrap_or status.file_id 0; namespace = status.namespace }
+-- the lease of a file of which this was told: by its id, 0 where none was, and by the namespace that it stands in
+abbrev pub lease_by : ToldFile → FileLease
+lease_by told = record { file_id = unwrap_or told.file_id 0; namespace = told.namespace }
 
 -- how often a lease is held
 abbrev pub held_of : FileLeases → FileLease → ℕ

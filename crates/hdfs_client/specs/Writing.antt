@@ -19,7 +19,7 @@ use Rattle.hdfs_namenode.specs.declared.protocol.NamenodeProtocol.{NamenodeProto
 use Rattle.hdfs_rebuild.specs.declared.block_plan.RebuildSettings.{RebuildSettings}
 use Rattle.hdfs_client.specs.Clients.{SameBut, leads_to, replacement_of, service_at}
 use Rattle.hdfs_client.specs.Holding.{KeepsLeases}
-use Rattle.hdfs_client.specs.Opening.{IsKnown, KeepsService}
+use Rattle.hdfs_opening.specs.Opening.{IsKnown, KeepsService}
 use Rattle.hdfs_client.specs.declared.client.Client.{Client}
 use Rattle.hdfs_client.specs.Readers.{ReadsBy}
 use Rattle.hdfs_client.specs.declared.file_lease.FileLease.{FileLease}

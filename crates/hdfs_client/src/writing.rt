@@ -6,7 +6,7 @@ ghost use Rattle.hdfs_model.specs.Limits.{are_options};
 
 use crate::client::Client;
 use crate::file_lease::FileLease;
-use crate::opening::{append_by, create_by};
+use crate::opening::{append_held, create_held};
 use hdfs_cluster::{ArgFault, Cluster, HdfsError};
 use hdfs_file_writer as files;
 use hdfs_model::WriteOptions;
@@ -33,10 +33,11 @@ pub struct FileWriter {
 
 impl Client {
     ghost use Rattle.hdfs_client.specs.Clients.{IsClientOf};
-    ghost use Rattle.hdfs_client.specs.Opening.{BeginsAgain, BeginsNew, CreatesBy, FailsToAppend, FailsToCreate, OpensBy};
+    ghost use Rattle.hdfs_client.specs.Opening.{CreatesBy, FailsToAppend, FailsToCreate, OpensBy};
     ghost use Rattle.hdfs_client.specs.Writing.{IsAnsweredTo, IsWriterOf, KeepsFiles, LetsAppend, LetsCreate, OpensAt, OpensNone, ReachesWhole, WritesWhole, rebuilding_of};
     ghost use Rattle.hdfs_namenode.specs.Clients.{through};
     ghost use Rattle.hdfs_namenode.specs.Views.{Seen};
+    ghost use Rattle.hdfs_opening.specs.Opening.{BeginsAgain, BeginsNew};
 
     /// Whether the service to which a path leads is all namenodes of a cluster, has no observers, and isn't to be in step: what is written by
     /// it is then what the cluster stores.
@@ -74,7 +75,7 @@ impl Client {
         requires allowed { LetsCreate C.allows C.may_answer self.old path.now options.now }
         ensures refused { are_options options.now ≡ false → (result ≡ Err (errors.InvalidArgument args.Options))
             × (self.new ≡ self.old) × (cluster.new ≡ cluster.old) }
-        ensures created { IfOk result (λ writer. OpensAt (λ at before file lease after. CreatesBy C.serves at options.now
+        ensures created { IfOk result (λ writer. OpensAt (λ at before file lease after. CreatesBy C.may_answer C.serves at options.now
             (rebuilding_of self.old) before cluster.old file lease after cluster.new) self.old path.now writer self.new) }
         ensures begins { IfOk result (λ writer. OpensAt (λ at before file lease after.
             Seen C.shown (through before cluster.old) cluster.new (λ old new. BeginsNew old at options.now file new))
@@ -83,7 +84,7 @@ impl Client {
             × IsAnsweredTo C.may_answer self.new writer
             × (ReachesWhole self.old path.now (C.shown cluster.old) → WritesWhole self.new (C.shown cluster.new) writer)) }
         ensures err { are_options options.now ≡ true → IfErr result (λ error. OpensNone (λ error at before after.
-            FailsToCreate C.serves at options.now before cluster.old error after cluster.new) self.old path.now
+            FailsToCreate C.may_answer C.serves at options.now before cluster.old error after cluster.new) self.old path.now
             cluster.old error self.new cluster.new) }
         ensures files { KeepsFiles C.allows C.may_answer self.old (C.shown cluster.old) self.new
             (C.shown cluster.new) }
@@ -96,11 +97,11 @@ impl Client {
         let service = to.service;
         let rebuilding = self.rebuilding();
         let namenode = &mut self.services[service];
-        let opened = create_by(self.alloc, cluster, namenode, to.path, options, rebuilding)?;
+        let held = create_held(self.alloc, cluster, namenode, to.path, options, rebuilding)?;
         Ok(FileWriter {
             service,
-            file: Some(opened.file),
-            lease: Some(opened.lease),
+            file: Some(held.file),
+            lease: Some(held.lease),
             closed: false,
         })
     }
@@ -117,7 +118,7 @@ impl Client {
     ) -> Result<FileWriter, HdfsError>
         requires client { IsClientOf self.old (C.shown cluster.old) }
         requires allowed { LetsAppend C.allows C.may_answer self.old path.now }
-        ensures opened { IfOk result (λ writer. OpensAt (λ at before file lease after. OpensBy C.serves at
+        ensures opened { IfOk result (λ writer. OpensAt (λ at before file lease after. OpensBy C.may_answer C.serves at
             (rebuilding_of self.old) before cluster.old file lease after cluster.new) self.old path.now writer self.new) }
         ensures begins { IfOk result (λ writer. OpensAt (λ at before file lease after.
             Seen C.shown (through before cluster.old) cluster.new (λ old new. BeginsAgain old at file new))
@@ -126,7 +127,7 @@ impl Client {
             × IsAnsweredTo C.may_answer self.new writer
             × (ReachesWhole self.old path.now (C.shown cluster.old) → WritesWhole self.new (C.shown cluster.new) writer)) }
         ensures err { IfErr result (λ error. OpensNone (λ error at before after.
-            FailsToAppend C.shown C.serves at path.now before cluster.old error after cluster.new) self.old path.now
+            FailsToAppend C.shown C.may_answer C.serves at path.now before cluster.old error after cluster.new) self.old path.now
             cluster.old error self.new cluster.new) }
         ensures files { KeepsFiles C.allows C.may_answer self.old (C.shown cluster.old) self.new
             (C.shown cluster.new) }
@@ -136,11 +137,11 @@ impl Client {
         let service = to.service;
         let rebuilding = self.rebuilding();
         let namenode = &mut self.services[service];
-        let opened = append_by(self.alloc, cluster, namenode, to.path, path, rebuilding)?;
+        let held = append_held(self.alloc, cluster, namenode, to.path, path, rebuilding)?;
         Ok(FileWriter {
             service,
-            file: Some(opened.file),
-            lease: Some(opened.lease),
+            file: Some(held.file),
+            lease: Some(held.lease),
             closed: false,
         })
     }

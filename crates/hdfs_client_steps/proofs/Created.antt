@@ -39,17 +39,20 @@ use Rattle.hdfs_file_writer.specs.Tails.{Bare}
 use Rattle.hdfs_file_writer.specs.Writers.{sizes_of, tail_of}
 use Rattle.hdfs_file_writer.specs.declared.file_writer.FileWriter as inner
 use Rattle.hdfs_file_writer.specs.declared.sizes.WriteSizes.{WriteSizes}
-use Rattle.hdfs_rebuild.specs.declared.block_plan.RebuildSettings.{RebuildSettings}
-use Rattle.hdfs_client.specs.Opening.{CreatesBy, FailsToCreate, HasDefaults, LacksLease, RefusesCreated}
+use Rattle.hdfs_opening.specs.Opening.{HasDefaults, RefusesCreated}
+use Rattle.hdfs_opening.specs.Opening as opening
+use Rattle.hdfs_opening.specs.declared.opened_file.ToldFile.{ToldFile}
+use Rattle.hdfs_opening.specs.declared.opened_file.WriteTerms.{WriteTerms}
+use Rattle.hdfs_client.specs.Opening.{CreatesBy, FailsToCreate, LacksLease}
 use Rattle.hdfs_client.specs.Writing.{OpensAt, OpensNone, rebuilding_of}
 use Rattle.hdfs_client.specs.declared.client.Client.{Client}
-use Rattle.hdfs_client.specs.declared.file_lease.FileLease.{FileLease}
 use Rattle.hdfs_client.specs.declared.writing.FileWriter.{FileWriter}
 use Rattle.hdfs_client.proofs.Coming.{came_once}
 use Rattle.hdfs_commands.specs.Meeting.{KnowsDefaults}
 use Rattle.hdfs_commands.proofs.Begun.{Begun, create_begun}
 use Rattle.hdfs_commands.proofs.Failing.{create_still}
 use Rattle.hdfs_commands.proofs.Opening.{Over, create_over, made, may_be_made, was_made, was_plain}
+use Rattle.hdfs_commands.proofs.Prepared.{reaches_between}
 use Rattle.hdfs_commands.proofs.Refusing.{create_step, kinds_same}
 use Rattle.hdfs_commands.proofs.WithWriting.{clear_to_create}
 use Rattle.hdfs_cluster.specs.Namenode.{MayBeDone}
@@ -57,7 +60,7 @@ use Rattle.hdfs_client.specs.Clients.{mounts_of, replacement_of}
 use Rattle.hdfs_client_steps.specs.OpenFiles.{OpensAs}
 use Rattle.hdfs_client_steps.specs.Steps.{Does, KeepsParts, Knows, holding}
 use Rattle.hdfs_client_steps.proofs.Applying.{absolute_path, told_of}
-use Rattle.hdfs_client_steps.proofs.Opened.{Behind, OpensFile, agrees_behind, begins_file, behind_defaults, behind_none, defaults_are, early_does, holds_opened, knows_behind, knows_kept, knows_opened, lacks_does, lacks_knows, late_does, parts_but, parts_none, reaches_between, refused_behind, where_ready}
+use Rattle.hdfs_client_steps.proofs.Opened.{Behind, OpensFile, agrees_behind, begins_file, behind_defaults, behind_none, defaults_are, early_does, holds_opened, knows_behind, knows_kept, knows_opened, lacks_does, lacks_knows, late_does, parts_but, parts_none, refused_behind, where_ready}
 
 module _ (options : WriteOptions) where
   abbrev create : List ℕ → Command
@@ -169,7 +172,8 @@ module _ (options : WriteOptions) where
       module _ {before : NamenodeProtocol} (reaches : ReachesAll (proxy_of before) (shown old)) (knows : KnowsDefaults (shown old) (kept_by before))
           (of_world : world.defaults ≡ defaults_of (shown old).picture) where
         -- behind the ask for the defaults
-        module _ {d : ServerDefaults} {between : NamenodeProtocol} {mid : C} (has : HasDefaults serves before old d between mid) where
+        module _ {may_answer : Ask → Answer → Type 0} {d : ServerDefaults} {between : NamenodeProtocol} {mid : C}
+            (has : HasDefaults may_answer serves before old d between mid) where
           abbrev behind : Behind (shown old) was.0 (shown mid)
           behind = behind_defaults rows below reaches has was.0 was.1
 
@@ -185,72 +189,84 @@ module _ (options : WriteOptions) where
               came_once rows below true asked (through between mid) (through namenode c) outcome (reaches_between rows below reaches has behind.later) once
 
           why_none : {after : NamenodeProtocol} {new : C} (error : HdfsError) → AskedOnce serves true asked (through between mid) (Err error) (through after new)
-              ⊎ RefusesCreated serves path asked between mid error after new ⊎ LacksLease serves asked answers.Create between mid error after new
+              ⊎ RefusesCreated may_answer serves path asked between mid error after new
               → Does world state (create path) path opened (shown old) opened (shown new) (Err error)
           why_none {after} {new} error (inl once) =
               uncreated_does path named closed world state (shown old) ready (shown mid) behind (sound mid behind.picture behind.told) (name_of before) d are
               (shown new) error (came_of after once)
-          why_none error (inr (inl refuses)) =
+          why_none error (inr refuses) =
               absurd (false≢true (sym (was_plain path (name_of before) options (unwrap_or options.replication d.replication)
               (unwrap_or options.block_size d.block_size) behind.picture (shown mid) (shown refuses.mid) refuses.status behind.told
               (came_of refuses.between refuses.asked))
               ∙ refuses.encrypted))
-          why_none {after} {new} error (inr (inr lacks)) =
-              subst (λ (e : HdfsError). Does world state (create path) path opened (shown old) opened (shown new) (Err e)) (sym lacks.is)
-              (leaseless_does path named closed world state (shown old) ready (shown mid) behind (sound mid behind.picture behind.told) (name_of before) d are
-              (shown new) lacks.status (came_of after lacks.asked))
 
         -- What a service does that creates a file is what the command does, and its writer has the file.
-        pub creates_by : are_options options ≡ true → {rebuilding : RebuildSettings} {writer : inner.FileWriter} {lease : FileLease}
-            {after : NamenodeProtocol} {new : C} (c : CreatesBy serves path options rebuilding before old writer lease after new)
+        pub creates_by : {may_answer : Ask → Answer → Type 0} → are_options options ≡ true → {terms : WriteTerms} {writer : inner.FileWriter} {told : ToldFile}
+            {after : NamenodeProtocol} {new : C} (c : opening.CreatesBy may_answer serves path options terms before old writer told after new)
             → OpensFile world state (create path) path opened (shown old) (shown new) replies.Created c.defaults writer
-        creates_by limited {rebuilding} {writer} {lease} {after} {new} c =
+        creates_by limited {terms} {writer} {told} {after} {new} c =
             let has = c.knows.has in
             begun_does path named closed world state (shown old) ready (shown c.mid) (behind has) (sound c.mid (behind has).picture (behind has).told)
             (name_of before) c.defaults (are has) (shown new) c.status (came_of has after c.asked) limited c.knows.limited
             (are has ∙ sym (of_world ∙ ap defaults_of was.1)) writer c.fresh.stands
             (ap (λ (x : WriteSizes). x.replication) c.fresh.with) (ap (λ (x : WriteSizes). x.block_size) c.fresh.with)
 
-        -- And so is what one does that creates none.
-        pub creates_none : {after : NamenodeProtocol} {new : C} (error : HdfsError) → FailsToCreate serves path options before old error after new
+        -- a file was created, and no lease of it could be taken
+        leaseless_none : {after : NamenodeProtocol} {new : C} {may_answer : Ask → Answer → Type 0} (error : HdfsError)
+            → LacksLease (λ terms writer told namenode. opening.CreatesBy may_answer serves path options terms before old writer told namenode new) error after
             → Does world state (create path) path opened (shown old) opened (shown new) (Err error)
-        creates_none error (inl lacks) =
+        leaseless_none {after} {new} error lacks =
+            let c = lacks.opens in
+            let has = c.knows.has in
+            subst (λ (e : HdfsError). Does world state (create path) path opened (shown old) opened (shown new) (Err e)) (sym lacks.is)
+            (leaseless_does path named closed world state (shown old) ready (shown c.mid) (behind has) (sound c.mid (behind has).picture (behind has).told)
+            (name_of before) c.defaults (are has) (shown new) c.status (came_of has lacks.opened c.asked))
+
+        -- And so is what one does that creates none.
+        pub creates_none : {after : NamenodeProtocol} {new : C} {may_answer : Ask → Answer → Type 0} (error : HdfsError)
+            → FailsToCreate may_answer serves path options before old error after new
+            → Does world state (create path) path opened (shown old) opened (shown new) (Err error)
+        creates_none error (inl (inl lacks)) =
             lacks_does rows below reaches world state (create path) (create_still path options) path (called path named world) ready was.0 was.1 tt
             of_world knows error lacks
-        creates_none error (inr fails) = why_none fails.knows.has error fails.why
+        creates_none error (inl (inr fails)) = why_none fails.knows.has error fails.why
+        creates_none error (inr lacks) = leaseless_none error lacks
 
         -- what such a one knows of the defaults is the cluster's
-        pub creates_knows : {after : NamenodeProtocol} {new : C} (error : HdfsError) → FailsToCreate serves path options before old error after new
+        pub creates_knows : {after : NamenodeProtocol} {new : C} {may_answer : Ask → Answer → Type 0} (error : HdfsError)
+            → FailsToCreate may_answer serves path options before old error after new
             → defaults_of (shown new).picture ≡ defaults_of (shown old).picture → KnowsDefaults (shown new) (kept_by after)
-        creates_knows error (inl lacks) =
+        creates_knows error (inl (inl lacks)) =
             lacks_knows rows below reaches world state (create path) (create_still path options) path (called path named world) ready was.0 was.1 knows
             error lacks
-        creates_knows {after} {new} error (inr fails) =
+        creates_knows {after} {new} error (inl (inr fails)) =
             knows_kept (shown old) (shown new) after fails.kept (are fails.knows.has) was.1
+        creates_knows {after} {new} error (inr lacks) =
+            knows_kept (shown old) (shown new) after (lacks.alone.defaults ∙ lacks.opens.kept) (are lacks.opens.knows.has) was.1
 
     -- by a client
     module _ (client client' : Client) (src : List ℕ) (old new : C) where
       abbrev Creates : Result FileWriter HdfsError → Type 0
       Creates result = OpensAs client src create replies.Created (shown old) client' (shown new) result
 
-      created_does : are_options options ≡ true → (writer : FileWriter)
-          → OpensAt (λ at before file lease after. CreatesBy serves at options (rebuilding_of client) before old file lease after new) client src writer client'
+      created_does : (may_answer : Ask → Answer → Type 0) → are_options options ≡ true → (writer : FileWriter)
+          → OpensAt (λ at before file lease after. CreatesBy may_answer serves at options (rebuilding_of client) before old file lease after new) client src writer client'
           → Creates (Ok writer)
-      created_does limited writer o knows = where_ready client src create (shown old) _ o.to o.leads (λ reaches named opened placed world state ready of.
+      created_does may_answer limited writer o knows = where_ready client src create (shown old) _ o.to o.leads (λ reaches named opened placed world state ready of.
           (let opens = creates_by o.to.path named (false_from_ne_true (opened o.to.path) placed) world state old ready
-          (reaches o.to o.before o.leads o.was) (knows o.to.service o.before o.was) of.defaults limited o.opens in
-          (opens.does, knows_opened opens o.others o.is o.opens.holds.kept knows, holds_opened opens o.others o.opened o.opens.fresh)))
+          (reaches o.to o.before o.leads o.was) (knows o.to.service o.before o.was) of.defaults limited o.opens.creates in
+          (opens.does, knows_opened opens o.others o.is (o.opens.holds.alone.defaults ∙ o.opens.creates.kept) knows, holds_opened opens o.others o.opened o.opens.creates.fresh)))
 
-      uncreated : (error : HdfsError)
-          → OpensNone (λ e at before after. FailsToCreate serves at options before old e after new) client src old error client' new → Creates (Err error)
-      uncreated error (inl memory) knows = λ reaches to leads named opened placed world state ready of. (
+      uncreated : (may_answer : Ask → Answer → Type 0) (error : HdfsError)
+          → OpensNone (λ e at before after. FailsToCreate may_answer serves at options before old e after new) client src old error client' new → Creates (Err error)
+      uncreated may_answer error (inl memory) knows = λ reaches to leads named opened placed world state ready of. (
         subst (λ (c : C). Does world state (create to.path) to.path opened (shown old) opened (shown c) (Err error)) (sym memory.2)
             (subst (λ (e : HdfsError). Does world state (create to.path) to.path opened (shown old) opened (shown old) (Err e)) (sym memory.0)
             (memory_does to.path named (false_from_ne_true (opened to.path) placed) world state (shown old) ready)),
         subst (λ (c : C). Knows client' (shown c)) (sym memory.2) (subst (λ (c : Client). Knows c (shown old)) (sym memory.1) knows),
         tt,
       )
-      uncreated error (inr f) knows = where_ready client src create (shown old) _ f.to f.leads (λ reaches named opened placed world state ready of.
+      uncreated may_answer error (inr f) knows = where_ready client src create (shown old) _ f.to f.leads (λ reaches named opened placed world state ready of.
           (let closed = false_from_ne_true (opened f.to.path) placed in
           let whole = reaches f.to f.before f.leads f.was in
           let does = creates_none f.to.path named closed world state old ready whole (knows f.to.service f.before f.was) of.defaults error f.fails in (
@@ -270,39 +286,39 @@ module _ (options : WriteOptions) where
       )
 
       -- What `create` of a client ensures is what the command does. Over any cluster.
-      pub create_does : (result : Result FileWriter HdfsError)
+      pub create_does : (may_answer : Ask → Answer → Type 0) (result : Result FileWriter HdfsError)
           → (are_options options ≡ false → (result ≡ Err (errors.InvalidArgument args.Options)) × (client' ≡ client) × (new ≡ old))
           → IfOk result (λ writer. OpensAt (λ at before file lease after.
-          CreatesBy serves at options (rebuilding_of client) before old file lease after new) client src writer client')
+          CreatesBy may_answer serves at options (rebuilding_of client) before old file lease after new) client src writer client')
           → (are_options options ≡ true → IfErr result (λ error.
-          OpensNone (λ e at before after. FailsToCreate serves at options before old e after new) client src old error client' new))
+          OpensNone (λ e at before after. FailsToCreate may_answer serves at options before old e after new) client src old error client' new))
           → Creates result
-      create_does result refused ok err = by (are_options options) refl result refused ok err
+      create_does may_answer result refused ok err = by (are_options options) refl result refused ok err
         where
           by : (b : Bool) → are_options options ≡ b → (r : Result FileWriter HdfsError)
               → (are_options options ≡ false → (r ≡ Err (errors.InvalidArgument args.Options)) × (client' ≡ client) × (new ≡ old))
               → IfOk r (λ writer. OpensAt (λ at before file lease after.
-              CreatesBy serves at options (rebuilding_of client) before old file lease after new) client src writer client')
+              CreatesBy may_answer serves at options (rebuilding_of client) before old file lease after new) client src writer client')
               → (are_options options ≡ true → IfErr r (λ error.
-              OpensNone (λ e at before after. FailsToCreate serves at options before old e after new) client src old error client' new))
+              OpensNone (λ e at before after. FailsToCreate may_answer serves at options before old e after new) client src old error client' new))
               → Creates r
-          by true limited (Ok writer) none opens fails = created_does limited writer opens
-          by true limited (Err error) none opens fails = uncreated error (fails limited)
+          by true limited (Ok writer) none opens fails = created_does may_answer limited writer opens
+          by true limited (Err error) none opens fails = uncreated may_answer error (fails limited)
           by false out r none opens fails =
               let bad = none out in
               subst Creates (sym bad.0) (refused_create out bad.1 bad.2)
 
       -- And its mounts and its policy stay.
-      pub create_parts : (result : Result FileWriter HdfsError)
+      pub create_parts : (may_answer : Ask → Answer → Type 0) (result : Result FileWriter HdfsError)
           → (are_options options ≡ false → (result ≡ Err (errors.InvalidArgument args.Options)) × (client' ≡ client) × (new ≡ old))
           → IfOk result (λ writer. OpensAt (λ at before file lease after.
-          CreatesBy serves at options (rebuilding_of client) before old file lease after new) client src writer client')
+          CreatesBy may_answer serves at options (rebuilding_of client) before old file lease after new) client src writer client')
           → (are_options options ≡ true → IfErr result (λ error.
-          OpensNone (λ e at before after. FailsToCreate serves at options before old e after new) client src old error client' new))
+          OpensNone (λ e at before after. FailsToCreate may_answer serves at options before old e after new) client src old error client' new))
           → KeepsParts client client'
-      create_parts (Ok writer) refused opens fails = parts_but opens.others
-      create_parts (Err error) refused opens fails = by (are_options options) refl
+      create_parts may_answer (Ok writer) refused opens fails = parts_but opens.others
+      create_parts may_answer (Err error) refused opens fails = by (are_options options) refl
         where
           by : (b : Bool) → are_options options ≡ b → KeepsParts client client'
-          by true limited = parts_none (λ e at before after. FailsToCreate serves at options before old e after new) (fails limited)
+          by true limited = parts_none (λ e at before after. FailsToCreate may_answer serves at options before old e after new) (fails limited)
           by false out = let bad = refused out in (ap mounts_of bad.1, ap replacement_of bad.1)

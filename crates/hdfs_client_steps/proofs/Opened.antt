@@ -47,12 +47,11 @@ use Rattle.hdfs_file_writer.specs.Writers as files
 use Rattle.hdfs_file_writer.specs.declared.file_writer.FileWriter as inner
 use Rattle.hdfs_file_writer.specs.declared.sizes.WriteSizes.{WriteSizes}
 use Rattle.hdfs_client.specs.Clients.{SameBut, leads_to, mounts_of, replacement_of, service_at}
-use Rattle.hdfs_client.specs.Opening.{AsksInVain, HasBadDefaults, HasDefaults, IsFresh, LacksDefaults}
+use Rattle.hdfs_opening.specs.Opening.{AsksInVain, HasBadDefaults, HasDefaults, IsFresh, LacksDefaults}
 use Rattle.hdfs_file_writer.specs.Sizing.{sizes_by}
 use Rattle.hdfs_client.specs.Writing.{OpensNone, ReachesWhole, open_of, rebuilding_of}
 use Rattle.hdfs_client.specs.declared.client.Client.{Client}
 use Rattle.hdfs_client.specs.declared.writing.FileWriter.{FileWriter}
-use Rattle.hdfs_client.proofs.Coming.{came_once}
 use Rattle.hdfs_commands.specs.Meeting.{KnowsDefaults}
 use Rattle.hdfs_commands.specs.Session.{CarriesFile}
 use Rattle.hdfs_commands.proofs.Acted.{or_flip, spares_but}
@@ -60,6 +59,7 @@ use Rattle.hdfs_commands.proofs.Agreeing.{agrees_but, agrees_files, agrees_told}
 use Rattle.hdfs_commands.proofs.Begun.{Begun}
 use Rattle.hdfs_commands.proofs.Failing.{IsStill, may_be_done}
 use Rattle.hdfs_commands.proofs.Opening.{Over}
+use Rattle.hdfs_commands.proofs.Prepared.{has_cached, vain_cached}
 use Rattle.hdfs_commands.proofs.Refusing.{ask_not_early, exception_cause, rose_cause}
 use Rattle.hdfs_commands.proofs.Still.{file_stays}
 use Rattle.hdfs_commands.proofs.WithWriting.{writing_there}
@@ -90,50 +90,17 @@ module _ {C : Type 0} {shown : C → Shown} {serves : C → ℕ → Ask → Resu
     (rows : (old new : C) (i : ℕ) (ask : Ask) (result : Result Answer AskFault) → serves old i ask result new → Served (shown old) i ask result (shown new))
     (below : (c : C) (p : Picture) → (shown c).picture ≡ Some p → p.active < (shown c).namenodes)
     {before between : NamenodeProtocol} {old mid : C} (reaches : ReachesAll (proxy_of before) (shown old)) where
-  -- what the ask for them has come to, where there are some, and where there are none
-  has_cached : {d : ServerDefaults} → HasDefaults serves before old d between mid → CameCached (kept_by before) (shown old) (Ok d) (shown mid)
-  has_cached {d} has = record {
-    known = λ kept is. (let had = has.known kept is in (ap (λ (x : ServerDefaults). Ok x) had.0, ap shown had.2));
-    asked = λ none.
-        came_once rows below false asks.GetServerDefaults (through before old) (through between mid) (Ok (answers.GetServerDefaults d)) reaches
-        (inl (has.asked none));
-  }
-
-  vain_cached : {error : HdfsError} → AsksInVain serves before old error between mid → CameCached (kept_by before) (shown old) (Err error) (shown mid)
-  vain_cached {error} vain = record {
-    known = λ kept is. absurd (let none = vain.unknown in cc (is, none));
-    asked = λ none.
-        came_once rows below false asks.GetServerDefaults (through before old) (through between mid) (Err error) reaches (inl vain.asked);
-  }
-
   -- a service that has the defaults has asked for nothing else
-  pub behind_defaults : {d : ServerDefaults} → HasDefaults serves before old d between mid → (p : Picture) → (shown old).picture ≡ Some p
+  pub behind_defaults : {d : ServerDefaults} {may_answer : Ask → Answer → Type 0} → HasDefaults may_answer serves before old d between mid → (p : Picture) → (shown old).picture ≡ Some p
       → Behind (shown old) p (shown mid)
-  behind_defaults has p was = behind_by (shown old) (shown mid) p was (leaves_by (has_cached has))
+  behind_defaults has p was = behind_by (shown old) (shown mid) p was (leaves_by (has_cached rows below reaches has))
 
   -- they are the picture's, where it knew no others
-  pub defaults_are : {d : ServerDefaults} → HasDefaults serves before old d between mid → KnowsDefaults (shown old) (kept_by before) → (p : Picture)
+  pub defaults_are : {d : ServerDefaults} {may_answer : Ask → Answer → Type 0} → HasDefaults may_answer serves before old d between mid → KnowsDefaults (shown old) (kept_by before) → (p : Picture)
       → (shown old).picture ≡ Some p → d ≡ p.defaults
   defaults_are has knows p was =
-      defaults_told (has_cached has) p was
+      defaults_told (has_cached rows below reaches has) p was
       (subst (λ (o : Option Picture). IfSome (kept_by before) (λ (x : ServerDefaults). x ≡ defaults_of o)) was knows)
-
-  -- it asks the same namenodes
-  same_proxy : {d : ServerDefaults} → HasDefaults serves before old d between mid → proxy_of between ≡ proxy_of before
-  same_proxy {d} has = by (kept_by before) refl
-    where
-      by : (o : Option ServerDefaults) → kept_by before ≡ o → proxy_of between ≡ proxy_of before
-      by None none =
-          (asked_plain serves false asks.GetServerDefaults (through before old) (Ok (answers.GetServerDefaults d)) (through between mid) reaches.plain
-          (has.asked none)).remembered
-      by (Some kept) some = ap proxy_of (has.known kept some).1
-
-  -- and it is whole still
-  pub reaches_between : {d : ServerDefaults} → HasDefaults serves before old d between mid → Later (shown old) (shown mid)
-      → ReachesAll (proxy_of between) (shown mid)
-  reaches_between has later =
-      subst (λ (x : NameServiceProxy). ReachesAll x (shown mid)) (sym (same_proxy has))
-      (reaches_later (proxy_of before) (proxy_of before) (shown old) (shown mid) (same_service_refl (proxy_of before)) later reaches)
 
 -- ---- what calls do that have opened nothing, and one that has opened a file
 
@@ -273,8 +240,8 @@ module _ {C : Type 0} {shown : C → Shown} {serves : C → ℕ → Ask → Resu
       by tells (inl memory) = subst (Cause world state command (shown old) (shown new)) (sym memory) (tt, tt)
       by tells (inr rose) = rose_cause world state command (shown old) (shown old) (shown new) error (never_fall_refl (shown old).counts) tells rose
 
-  bad_does : UsesDefaults command → world.defaults ≡ defaults_of (shown old).picture → KnowsDefaults (shown old) (kept_by before) → (error : HdfsError)
-      → HasBadDefaults serves before old error after new → Does world state command path opened (shown old) opened (shown new) (Err error)
+  bad_does : {may_answer : Ask → Answer → Type 0} → UsesDefaults command → world.defaults ≡ defaults_of (shown old).picture → KnowsDefaults (shown old) (kept_by before) → (error : HdfsError)
+      → HasBadDefaults may_answer serves before old error after new → Does world state command path opened (shown old) opened (shown new) (Err error)
   bad_does uses of_world knows error bad =
       let are : world.defaults ≡ bad.defaults =
       of_world ∙ ap defaults_of was ∙ sym (defaults_are rows below reaches bad.has knows p was) in
@@ -283,14 +250,14 @@ module _ {C : Type 0} {shown : C → Shown} {serves : C → ℕ → Ask → Resu
       (errors.InvalidArgument args.Defaults) ((uses, ap are_defaults are ∙ bad.unlimited), tt))
 
   -- what it knows of them is the cluster's, where it was before
-  pub lacks_knows : KnowsDefaults (shown old) (kept_by before) → (error : HdfsError) → LacksDefaults serves before old error after new
+  pub lacks_knows : {may_answer : Ask → Answer → Type 0} → KnowsDefaults (shown old) (kept_by before) → (error : HdfsError) → LacksDefaults may_answer serves before old error after new
       → defaults_of (shown new).picture ≡ defaults_of (shown old).picture → KnowsDefaults (shown new) (kept_by after)
   lacks_knows knows error (inl vain) same = subst (λ (o : Option ServerDefaults). IfSome o (λ x. x ≡ defaults_of (shown new).picture)) (sym vain.still) tt
   lacks_knows knows error (inr bad) same = knows_kept (shown old) (shown new) after bad.has.kept (defaults_are rows below reaches bad.has knows p was) was same
 
   -- it asked for them in vain, or they are out of their limits
-  pub lacks_does : UsesDefaults command → world.defaults ≡ defaults_of (shown old).picture → KnowsDefaults (shown old) (kept_by before)
-      → (error : HdfsError) → LacksDefaults serves before old error after new → Does world state command path opened (shown old) opened (shown new) (Err error)
+  pub lacks_does : {may_answer : Ask → Answer → Type 0} → UsesDefaults command → world.defaults ≡ defaults_of (shown old).picture → KnowsDefaults (shown old) (kept_by before)
+      → (error : HdfsError) → LacksDefaults may_answer serves before old error after new → Does world state command path opened (shown old) opened (shown new) (Err error)
   lacks_does uses of_world knows error (inl vain) = vain_does error vain
   lacks_does uses of_world knows error (inr bad) = bad_does uses of_world knows error bad
 

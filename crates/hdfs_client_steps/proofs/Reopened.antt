@@ -45,11 +45,13 @@ use Rattle.hdfs_file_writer.specs.Writers.{TouchesFile, path_of, sizes_of, tail_
 use Rattle.hdfs_file_writer.specs.declared.file_writer.FileWriter as inner
 use Rattle.hdfs_file_writer.specs.declared.sizes.WriteSizes.{WriteSizes}
 use Rattle.hdfs_file_writer.proofs.Others.{agrees_others, carries_others}
-use Rattle.hdfs_rebuild.specs.declared.block_plan.RebuildSettings.{RebuildSettings}
-use Rattle.hdfs_client.specs.Opening.{ClosesAgain, FailsToAppend, HasDefaults, LacksLease, LacksStatus, OpensBy, RefusesOpened, refusal}
+use Rattle.hdfs_opening.specs.Opening.{ClosesAgain, HasDefaults, LacksStatus, RefusesOpened, refusal}
+use Rattle.hdfs_opening.specs.Opening as opening
+use Rattle.hdfs_opening.specs.declared.opened_file.ToldFile.{ToldFile}
+use Rattle.hdfs_opening.specs.declared.opened_file.WriteTerms.{WriteTerms}
+use Rattle.hdfs_client.specs.Opening.{FailsToAppend, OpensBy}
 use Rattle.hdfs_client.specs.Writing.{OpensAt, OpensNone, rebuilding_of}
 use Rattle.hdfs_client.specs.declared.client.Client.{Client}
-use Rattle.hdfs_client.specs.declared.file_lease.FileLease.{FileLease}
 use Rattle.hdfs_client.specs.declared.writing.FileWriter.{FileWriter}
 use Rattle.hdfs_client.proofs.Coming.{came_once}
 use Rattle.hdfs_commands.specs.Meeting.{KnowsDefaults}
@@ -58,6 +60,7 @@ use Rattle.hdfs_commands.proofs.Begun.{Begun, ClosedAt, closed_at, open_begun, o
 use Rattle.hdfs_commands.proofs.Failing.{append_still}
 use Rattle.hdfs_commands.proofs.OneFile.{apart_by_test}
 use Rattle.hdfs_commands.proofs.Opening.{Over, Reopened, append_over, may_be_reopened, was_reopened}
+use Rattle.hdfs_commands.proofs.Prepared.{reaches_between}
 use Rattle.hdfs_commands.proofs.Refusing.{append_step, kinds_same}
 use Rattle.hdfs_commands.proofs.Still.{file_stays}
 use Rattle.hdfs_commands.proofs.WithWriting.{closed_to_append}
@@ -65,7 +68,7 @@ use Rattle.hdfs_cluster.specs.Namenode.{MayBeDone}
 use Rattle.hdfs_client_steps.specs.OpenFiles.{OpensAs}
 use Rattle.hdfs_client_steps.specs.Steps.{Does, KeepsParts, Knows, holding}
 use Rattle.hdfs_client_steps.proofs.Applying.{absolute_path, failed_applied, same_defaults, told_of}
-use Rattle.hdfs_client_steps.proofs.Opened.{Behind, OpensFile, agrees_behind, begins_file, behind_defaults, behind_none, carried_by, defaults_are, early_does, holds_opened, knows_behind, knows_kept, knows_opened, lacks_does, lacks_knows, late_does, parts_but, parts_none, reaches_between, refused_behind, where_ready}
+use Rattle.hdfs_client_steps.proofs.Opened.{Behind, OpensFile, agrees_behind, begins_file, behind_defaults, behind_none, carried_by, defaults_are, early_does, holds_opened, knows_behind, knows_kept, knows_opened, lacks_does, lacks_knows, late_does, parts_but, parts_none, refused_behind, where_ready}
 
 abbrev append : List ℕ → Command
 append at = commands.Append at
@@ -280,7 +283,8 @@ module _ {C : Type 0} {shown : C → Shown} {serves : C → ℕ → Ask → Resu
     module _ {before : NamenodeProtocol} (reaches : ReachesAll (proxy_of before) (shown old)) (knows : KnowsDefaults (shown old) (kept_by before))
         (of_world : world.defaults ≡ defaults_of (shown old).picture) where
       -- behind the ask for the defaults
-      module _ {d : ServerDefaults} {between : NamenodeProtocol} {mid : C} (has : HasDefaults serves before old d between mid) where
+      module _ {may_answer : Ask → Answer → Type 0} {d : ServerDefaults} {between : NamenodeProtocol} {mid : C}
+          (has : HasDefaults may_answer serves before old d between mid) where
         abbrev behind_it : Behind (shown old) was.0 (shown mid)
         behind_it = behind_defaults rows below reaches has was.0 was.1
 
@@ -295,7 +299,7 @@ module _ {C : Type 0} {shown : C → Shown} {serves : C → ℕ → Ask → Resu
         came_of namenode {c} {outcome} once = came_once rows below true asked (through between mid) (through namenode c) outcome whole once
 
         -- the file was opened, and something went wrong behind that
-        encrypted_none : {new : C} (error : HdfsError) → RefusesOpened shown serves path asked between mid error new
+        encrypted_none : {new : C} (error : HdfsError) → RefusesOpened shown may_answer serves path asked between mid error new
             → Does world state (append path) path opened (shown old) opened (shown new) (Err error)
         encrypted_none {new} error r =
             let came = came_of r.between r.asked in
@@ -321,29 +325,26 @@ module _ {C : Type 0} {shown : C → Shown} {serves : C → ℕ → Ask → Resu
             (came_of after once)).2.status.is in
             cc is
 
-        lacks_status : {after : NamenodeProtocol} {new : C} (name : List ℕ) (error : HdfsError) → (l : LacksStatus serves asked name between mid error after new)
+        lacks_status : {after : NamenodeProtocol} {new : C} (name : List ℕ) (error : HdfsError) → (l : LacksStatus may_answer serves asked name between mid error after new)
             → Does world state (append path) path opened (shown old) opened (shown new) (Err error)
         lacks_status {after} name error l = absurd (unstated_none after l.block l.asked)
 
         why_none : {after : NamenodeProtocol} {new : C} (name : List ℕ) (error : HdfsError)
             → AskedOnce serves true asked (through between mid) (Err error) (through after new)
-            ⊎ LacksStatus serves asked name between mid error after new
-            ⊎ RefusesOpened shown serves path asked between mid error new
-            ⊎ ((block : Option LocatedBlock)
-            × LacksLease serves asked (λ stat. answers.Append (record { block = block; stat = stat })) between mid error after new)
+            ⊎ LacksStatus may_answer serves asked name between mid error after new
+            ⊎ RefusesOpened shown may_answer serves path asked between mid error new
             → Does world state (append path) path opened (shown old) opened (shown new) (Err error)
         why_none {after} {new} name error (inl once) =
             unasked_does path named closed world state (shown old) ready (shown mid) behind_it (sound mid behind_it.picture behind_it.told) (name_of before)
             (shown new) error (came_of after once)
         why_none name error (inr (inl lacks)) = lacks_status name error lacks
-        why_none name error (inr (inr (inl refuses))) = encrypted_none error refuses
-        why_none {after} name error (inr (inr (inr lacks))) = starved_none after error lacks.1.is (record { block = lacks.0; stat = lacks.1.status }) lacks.1.asked
+        why_none name error (inr (inr refuses)) = encrypted_none error refuses
 
       -- What a service does that opens a file to go on with it is what the command does, and its writer has the file.
-      pub opens_by : {rebuilding : RebuildSettings} {writer : inner.FileWriter} {lease : FileLease} {after : NamenodeProtocol} {new : C}
-          (o : OpensBy serves path rebuilding before old writer lease after new)
+      pub opens_by : {may_answer : Ask → Answer → Type 0} {terms : WriteTerms} {writer : inner.FileWriter} {told : ToldFile} {after : NamenodeProtocol} {new : C}
+          (o : opening.OpensBy may_answer serves path terms before old writer told after new)
           → OpensFile world state (append path) path opened (shown old) (shown new) replies.Appended o.defaults writer
-      opens_by {rebuilding} {writer} {lease} {after} {new} o =
+      opens_by {may_answer} {terms} {writer} {told} {after} {new} o =
           let has = o.knows.has in
           let b = behind_it has in
           let are = defaults_are rows below reaches has knows was.0 was.1 in
@@ -353,22 +354,28 @@ module _ {C : Type 0} {shown : C → Shown} {serves : C → ℕ → Ask → Resu
           (ap (λ (x : WriteSizes). x.replication) o.fresh.with) (ap (λ (x : WriteSizes). x.block_size) o.fresh.with)
 
       -- And so is what one does that opens none.
-      pub opens_none : {after : NamenodeProtocol} {new : C} (name : List ℕ) (error : HdfsError)
-          → FailsToAppend shown serves path name before old error after new
+      pub opens_none : {after : NamenodeProtocol} {new : C} {may_answer : Ask → Answer → Type 0} (name : List ℕ) (error : HdfsError)
+          → FailsToAppend shown may_answer serves path name before old error after new
           → Does world state (append path) path opened (shown old) opened (shown new) (Err error)
-      opens_none name error (inl lacks) =
+      opens_none name error (inl (inl lacks)) =
           lacks_does rows below reaches world state (append path) (append_still path) path (called path named world) ready was.0 was.1 tt of_world knows
           error lacks
-      opens_none name error (inr fails) = why_none fails.knows.has name error fails.why
+      opens_none name error (inl (inr fails)) = why_none fails.knows.has name error fails.why
+      opens_none name error (inr lacks) =
+          let o = lacks.opens in
+          starved_none o.knows.has lacks.opened error lacks.is (record { block = o.block; stat = Some o.status }) o.asked
 
       -- what such a one knows of the defaults is the cluster's
-      pub opens_knows : {after : NamenodeProtocol} {new : C} (name : List ℕ) (error : HdfsError)
-          → FailsToAppend shown serves path name before old error after new
+      pub opens_knows : {after : NamenodeProtocol} {new : C} {may_answer : Ask → Answer → Type 0} (name : List ℕ) (error : HdfsError)
+          → FailsToAppend shown may_answer serves path name before old error after new
           → defaults_of (shown new).picture ≡ defaults_of (shown old).picture → KnowsDefaults (shown new) (kept_by after)
-      opens_knows name error (inl lacks) =
+      opens_knows name error (inl (inl lacks)) =
           lacks_knows rows below reaches world state (append path) (append_still path) path (called path named world) ready was.0 was.1 knows error lacks
-      opens_knows {after} {new} name error (inr fails) =
+      opens_knows {after} {new} name error (inl (inr fails)) =
           knows_kept (shown old) (shown new) after fails.kept (defaults_are rows below reaches fails.knows.has knows was.0 was.1) was.1
+      opens_knows {after} {new} name error (inr lacks) =
+          knows_kept (shown old) (shown new) after (lacks.alone.defaults ∙ lacks.opens.kept)
+          (defaults_are rows below reaches lacks.opens.knows.has knows was.0 was.1) was.1
 
   -- ---- by a client
 
@@ -376,24 +383,24 @@ module _ {C : Type 0} {shown : C → Shown} {serves : C → ℕ → Ask → Resu
     abbrev Appends : Result FileWriter HdfsError → Type 0
     Appends result = OpensAs client src append replies.Appended (shown old) client' (shown new) result
 
-    appended_does : (writer : FileWriter)
-        → OpensAt (λ at before file lease after. OpensBy serves at (rebuilding_of client) before old file lease after new) client src writer client'
+    appended_does : (may_answer : Ask → Answer → Type 0) (writer : FileWriter)
+        → OpensAt (λ at before file lease after. OpensBy may_answer serves at (rebuilding_of client) before old file lease after new) client src writer client'
         → Appends (Ok writer)
-    appended_does writer o knows = where_ready client src append (shown old) _ o.to o.leads (λ reaches named opened placed world state ready of.
+    appended_does may_answer writer o knows = where_ready client src append (shown old) _ o.to o.leads (λ reaches named opened placed world state ready of.
         (let opens = opens_by o.to.path named (false_from_ne_true (opened o.to.path) placed) world state old ready
-        (reaches o.to o.before o.leads o.was) (knows o.to.service o.before o.was) of.defaults o.opens in
-        (opens.does, knows_opened opens o.others o.is o.opens.holds.kept knows, holds_opened opens o.others o.opened o.opens.fresh)))
+        (reaches o.to o.before o.leads o.was) (knows o.to.service o.before o.was) of.defaults o.opens.opens in
+        (opens.does, knows_opened opens o.others o.is (o.opens.holds.alone.defaults ∙ o.opens.opens.kept) knows, holds_opened opens o.others o.opened o.opens.opens.fresh)))
 
-    unappended : (error : HdfsError)
-        → OpensNone (λ e at before after. FailsToAppend shown serves at src before old e after new) client src old error client' new → Appends (Err error)
-    unappended error (inl memory) knows = λ reaches to leads named opened placed world state ready of. (
+    unappended : (may_answer : Ask → Answer → Type 0) (error : HdfsError)
+        → OpensNone (λ e at before after. FailsToAppend shown may_answer serves at src before old e after new) client src old error client' new → Appends (Err error)
+    unappended may_answer error (inl memory) knows = λ reaches to leads named opened placed world state ready of. (
       subst (λ (c : C). Does world state (append to.path) to.path opened (shown old) opened (shown c) (Err error)) (sym memory.2)
           (subst (λ (e : HdfsError). Does world state (append to.path) to.path opened (shown old) opened (shown old) (Err e)) (sym memory.0)
           (memory_does to.path named (false_from_ne_true (opened to.path) placed) world state (shown old) ready)),
       subst (λ (c : C). Knows client' (shown c)) (sym memory.2) (subst (λ (c : Client). Knows c (shown old)) (sym memory.1) knows),
       tt,
     )
-    unappended error (inr f) knows = where_ready client src append (shown old) _ f.to f.leads (λ reaches named opened placed world state ready of.
+    unappended may_answer error (inr f) knows = where_ready client src append (shown old) _ f.to f.leads (λ reaches named opened placed world state ready of.
         (let closed = false_from_ne_true (opened f.to.path) placed in
         let whole = reaches f.to f.before f.leads f.was in
         let does = opens_none f.to.path named closed world state old ready whole (knows f.to.service f.before f.was) of.defaults src error f.fails in (
@@ -405,21 +412,21 @@ module _ {C : Type 0} {shown : C → Shown} {serves : C → ℕ → Ask → Resu
         )))
 
     -- What `append` of a client ensures is what the command does. Over any cluster.
-    pub append_does : (result : Result FileWriter HdfsError)
+    pub append_does : (may_answer : Ask → Answer → Type 0) (result : Result FileWriter HdfsError)
         → IfOk result (λ writer. OpensAt (λ at before file lease after.
-        OpensBy serves at (rebuilding_of client) before old file lease after new) client src writer client')
+        OpensBy may_answer serves at (rebuilding_of client) before old file lease after new) client src writer client')
         → IfErr result (λ error. OpensNone (λ e at before after.
-        FailsToAppend shown serves at src before old e after new) client src old error client' new)
+        FailsToAppend shown may_answer serves at src before old e after new) client src old error client' new)
         → Appends result
-    append_does (Ok writer) opens fails = appended_does writer opens
-    append_does (Err error) opens fails = unappended error fails
+    append_does may_answer (Ok writer) opens fails = appended_does may_answer writer opens
+    append_does may_answer (Err error) opens fails = unappended may_answer error fails
 
     -- And its mounts and its policy stay.
-    pub append_parts : (result : Result FileWriter HdfsError)
+    pub append_parts : (may_answer : Ask → Answer → Type 0) (result : Result FileWriter HdfsError)
         → IfOk result (λ writer. OpensAt (λ at before file lease after.
-        OpensBy serves at (rebuilding_of client) before old file lease after new) client src writer client')
+        OpensBy may_answer serves at (rebuilding_of client) before old file lease after new) client src writer client')
         → IfErr result (λ error. OpensNone (λ e at before after.
-        FailsToAppend shown serves at src before old e after new) client src old error client' new)
+        FailsToAppend shown may_answer serves at src before old e after new) client src old error client' new)
         → KeepsParts client client'
-    append_parts (Ok writer) opens fails = parts_but opens.others
-    append_parts (Err error) opens fails = parts_none (λ e at before after. FailsToAppend shown serves at src before old e after new) fails
+    append_parts may_answer (Ok writer) opens fails = parts_but opens.others
+    append_parts may_answer (Err error) opens fails = parts_none (λ e at before after. FailsToAppend shown may_answer serves at src before old e after new) fails

@@ -30,13 +30,13 @@ pub fn create<C: Cluster>(
     requires allowed { LetsCreate C.allows C.may_answer client.old path.now options.now }
     ensures refused { are_options options.now ≡ false → (result ≡ Err (errors.InvalidArgument args.Options))
         × (client.new ≡ client.old) × (cluster.new ≡ cluster.old) }
-    ensures created { IfOk result (λ writer. OpensAt (λ at before file lease after. CreatesBy C.serves at options.now
+    ensures created { IfOk result (λ writer. OpensAt (λ at before file lease after. CreatesBy C.may_answer C.serves at options.now
         (rebuilding_of client.old) before cluster.old file lease after cluster.new) client.old path.now writer client.new) }
     ensures stands { IfOk result (λ writer. IsWriterOf client.new (C.shown cluster.new) writer
         × IsAnsweredTo C.may_answer client.new writer
         × (ReachesWhole client.old path.now (C.shown cluster.old) → WritesWhole client.new (C.shown cluster.new) writer)) }
     ensures err { are_options options.now ≡ true → IfErr result (λ error. OpensNone (λ error at before after.
-        FailsToCreate C.serves at options.now before cluster.old error after cluster.new) client.old path.now
+        FailsToCreate C.may_answer C.serves at options.now before cluster.old error after cluster.new) client.old path.now
         cluster.old error client.new cluster.new) }
     ensures does { OpensAs client.old path.now (λ at. commands.Create at options.now) replies.Created
         (C.shown cluster.old) client.new (C.shown cluster.new) result }
@@ -56,13 +56,13 @@ pub fn append<C: Cluster>(
 ) -> Result<FileWriter, HdfsError>
     requires client { IsClientOf client.old (C.shown cluster.old) }
     requires allowed { LetsAppend C.allows C.may_answer client.old path.now }
-    ensures opened { IfOk result (λ writer. OpensAt (λ at before file lease after. OpensBy C.serves at
+    ensures opened { IfOk result (λ writer. OpensAt (λ at before file lease after. OpensBy C.may_answer C.serves at
         (rebuilding_of client.old) before cluster.old file lease after cluster.new) client.old path.now writer client.new) }
     ensures stands { IfOk result (λ writer. IsWriterOf client.new (C.shown cluster.new) writer
         × IsAnsweredTo C.may_answer client.new writer
         × (ReachesWhole client.old path.now (C.shown cluster.old) → WritesWhole client.new (C.shown cluster.new) writer)) }
     ensures err { IfErr result (λ error. OpensNone (λ error at before after.
-        FailsToAppend C.shown C.serves at path.now before cluster.old error after cluster.new) client.old path.now
+        FailsToAppend C.shown C.may_answer C.serves at path.now before cluster.old error after cluster.new) client.old path.now
         cluster.old error client.new cluster.new) }
     ensures does { OpensAs client.old path.now commands.Append replies.Appended
         (C.shown cluster.old) client.new (C.shown cluster.new) result }

@@ -95,14 +95,14 @@ spares_but world state command error path o q called asked told agrees refused =
     at_outcome r (Done reply next) is free = agrees r free
 
 -- A file was opened over a state, and the step says so.
-pub record BeginsFile (s t : Shown) (session : Session) (state : State) (command : Command) (path : List ℕ) (reply : Reply) (writer : FileWriter) : Type 0 where
+pub record BeginsFile (s t : Shown) (world : World) (state : State) (command : Command) (path : List ℕ) (reply : Reply) (writer : FileWriter) : Type 0 where
   pub p : Picture
   pub q : Picture
   pub was : s.picture ≡ Some p
   pub now : t.picture ≡ Some q
   pub content : Content
   pub begun : Begun p q state path content (files.tail_of writer)
-  pub done : step (world_at session s) state command ≡ Done reply (with_writing state path content)
+  pub done : step world state command ≡ Done reply (with_writing state path content)
   pub replication : (files.sizes_of writer).replication ≡ content.attributes.replication
   pub block_size : (files.sizes_of writer).block_size ≡ content.attributes.block_size
 
@@ -115,7 +115,7 @@ or_flip path r = by_tests (bytes_eq r path) (bytes_eq path r) (bytes_eq-Decides 
     by_tests false false one two back forth = refl
 
 module _ (command : Command) (s t : Shown) (session session' : Session) (path : List ℕ) (writer : FileWriter) (reply : Reply) (more : HasMore session session' path writer)
-    (told : (state : State) → IsReady s session state command → BeginsFile s t session state command path reply writer)
+    (told : (state : State) → IsReady s session state command → BeginsFile s t (world_at session s) state command path reply writer)
     (limited : (state : State) → IsReady s session state command → IsLimited (world_at session s) state command) where
   module _ (state : State) (ready : IsReady s session state command) where
     opened_at : (b : Bool) (o : Bool) (r : List ℕ) → is_opened state r ≡ is_some (writer_of session r) → bytes_eq path r ≡ b → (bytes_eq r path || is_opened state r) ≡ is_some (cond b (Some writer) (writer_of session r))

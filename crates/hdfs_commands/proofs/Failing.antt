@@ -1,6 +1,5 @@
 -- Errors of a command that opens a file to be written.
 use Rattle.std.proofs.Common.{◌≡◌, inl, inr, ℕ, true, false, is_some, List, Some, Err, sym, ◌∙◌, ap, subst}
-use Rattle.std.specs.BTreeMap.{get_by_text}
 use Rattle.hdfs_cluster.specs.declared.asks.Ask.{Ask}
 use Rattle.hdfs_model.specs.declared.commands.Command.{Command}
 use Rattle.hdfs_model.specs.declared.commands.Command.TheVariants as commands
@@ -24,7 +23,7 @@ use Rattle.hdfs_file_writer.specs.Writers as files
 use Rattle.hdfs_file_writer.specs.declared.file_writer.FileWriter.{FileWriter}
 use Rattle.hdfs_commands.specs.Acting.{Acts, IsReady, world_at}
 use Rattle.hdfs_file_reader.specs.Looking.{OnlyLooks}
-use Rattle.hdfs_commands.specs.Preparing.{Prepares, Remembers}
+use Rattle.hdfs_commands.specs.Preparing.{Remembers}
 use Rattle.hdfs_commands.specs.Session.{CarriesFile, CarriesOpen, Stands, after, writer_of}
 use Rattle.hdfs_commands.specs.declared.session.Session.{Session}
 use Rattle.hdfs_commands.proofs.Still.{carries_stays}
@@ -32,8 +31,8 @@ use Rattle.hdfs_commands.proofs.Acted.{failed_acts, spares_but}
 use Rattle.hdfs_commands.proofs.Agreeing.{agrees_files, is_told}
 use Rattle.hdfs_commands.proofs.Opening.{Over}
 use Rattle.hdfs_file_reader.proofs.Looking.{looks_from-Leaves, looks_trans}
+use Rattle.hdfs_file_reader.proofs.Transfers.{OnlyAsks}
 use Rattle.hdfs_commands.proofs.Refusing.{ask_not_early, ask_tells, exception_cause, rose_cause}
-use Rattle.hdfs_commands.proofs.Sized.{remembers_trans}
 
 -- an ask that was done or not may be done
 pub may_be_done : (ask : Ask) (p q : Picture) → DoneOrNot ask p q → MayBeDone ask p q
@@ -51,32 +50,29 @@ create_still name options = record { sends = λ sends. sends; found = λ old new
 pub append_still : (name : List ℕ) → IsStill (commands.Append name)
 append_still name = record { sends = λ sends. sends; found = λ old new path byte lost. lost }
 
-module _ (command : Command) (still : IsStill command) (s m : Shown) (session session' : Session) (stands : Stands s session)
-    (prepares : Prepares s session m session') where
-  kept : (r : List ℕ) → writer_of session' r ≡ writer_of session r
-  kept r = ap (λ w. get_by_text w r) prepares.writers
-
+module _ (command : Command) (still : IsStill command) (s m : Shown) (session : Session) (stands : Stands s session) (quiet : OnlyAsks s m) where
   pub agrees_still : (state : State) → IsReady s session state command → Agrees m.picture state.files
   agrees_still state ready =
-      agrees_files s.picture m.picture state.files (told_weaker SameButActive SameFiles s.picture m.picture (λ p q same. same.files) prepares.picture) ready.ready.fits.agrees
+      agrees_files s.picture m.picture state.files (told_weaker SameButActive SameFiles s.picture m.picture (λ p q same. same.files) quiet.1) ready.ready.fits.agrees
 
   -- the session's files are carried still
   carried_still : (state : State) → IsReady s session state command → (p : Picture) → m.picture ≡ Some p → (r : List ℕ) (writer : FileWriter) → writer_of session r ≡ Some writer → CarriesFile p state r writer
   carried_still state ready p told r writer is =
-      let one = told_before SameButActive s.picture m.picture p prepares.picture told in
+      let one = told_before SameButActive s.picture m.picture p quiet.1 told in
       carries_stays one.0 p one.2.files one.2.writes state r writer (ready.carried.each one.0 one.1 r writer is)
 
-  pub open_still : (state : State) → IsReady s session state command → CarriesOpen m session' state
-  open_still state ready = record { each = λ p told r writer is. inr (carried_still state ready p told r writer (sym (kept r) ∙ is)) }
+  -- also where it has failed
+  pub open_still : {session' : Session} → ((r : List ℕ) → writer_of session' r ≡ writer_of session r) → (state : State) → IsReady s session state command → CarriesOpen m session' state
+  open_still writers state ready = record { each = λ p told r writer is. inr (carried_still state ready p told r writer (sym (writers r) ∙ is)) }
 
-  module _ (t : Shown) (session'' : Session) (writers : (r : List ℕ) → writer_of session'' r ≡ writer_of session' r) (remembers : Remembers session' session'') (ask : Ask) (path : List ℕ)
+  module _ (t : Shown) (session' : Session) (writers : (r : List ℕ) → writer_of session' r ≡ writer_of session r) (remembers : Remembers session session') (ask : Ask) (path : List ℕ)
       (called : (state : State) → target_of (world_at session s) command ≡ path)
       (over : (state : State) → IsReady s session state command → (p : Picture) → m.picture ≡ Some p → Over p (world_at session s) state command path ask) where
     -- what the writers of other files carry they carry behind an ask that may have been done
-    pub others_open : (state : State) → IsReady s session state command → (p : Picture) → m.picture ≡ Some p → (q : Picture) → t.picture ≡ Some q → MayBeDone ask p q → CarriesOpen t session'' state
+    pub others_open : (state : State) → IsReady s session state command → (p : Picture) → m.picture ≡ Some p → (q : Picture) → t.picture ≡ Some q → MayBeDone ask p q → CarriesOpen t session' state
     others_open state ready p was q now may = record {
       each = λ x told r writer is.
-          (let there : writer_of session r ≡ Some writer = sym (writers r ∙ kept r) ∙ is in
+          (let there : writer_of session r ≡ Some writer = sym (writers r) ∙ is in
           let o = over state ready p was in
           let opened : is_opened state r ≡ true = ready.ready.opened r ∙ ap is_some there in
           let c = carried_still state ready p was r writer there in
@@ -93,9 +89,9 @@ module _ (command : Command) (still : IsStill command) (s m : Shown) (session se
     -- an error behind an ask that may have been done
     pub late_acts : (error : HdfsError) → is_before_asking error ≡ false → OnlyLooks m t → Tells command s t error
         → ((state : State) → IsReady s session state command → (p : Picture) → m.picture ≡ Some p → Cause (world_at session s) state command s t error × ((q : Picture) × (t.picture ≡ Some q) × MayBeDone ask p q))
-        → Acts command s session t (after {T = Reply} session'' (Err error)) (Err error)
+        → Acts command s session t (after {T = Reply} session' (Err error)) (Err error)
     late_acts error late looks tells cause =
-        failed_acts command still.sends s t session session'' error stands (looks_trans s m t prepares.looks looks) (λ r. writers r ∙ kept r) (remembers_trans session session' session'' prepares.remembers remembers) tells (still.found s t)
+        failed_acts command still.sends s t session session' error stands (looks_trans s m t quiet.0 looks) writers remembers tells (still.found s t)
         (λ state ready.
         (let told = is_told m.picture state.files (agrees_still state ready) in
         let h = cause state ready told.0 told.1 in (
@@ -117,12 +113,12 @@ module _ (command : Command) (still : IsStill command) (s m : Shown) (session se
         subst (Cause (world_at session s) state command s t) (sym by.3)
         (exception_cause (world_at session s) state command s t by.0 by.1 (inl (o.refused by.0 by.2)))
     asked_cause state ready p told error tells q (inr (inr rose)) =
-        rose_cause (world_at session s) state command s m t error prepares.looks.later.counts tells rose.0
+        rose_cause (world_at session s) state command s m t error quiet.0.later.counts tells rose.0
 
     -- an error of the ask
-    pub refused_acts : (error : HdfsError) → Came m ask (Err error) t → ((p : Picture) → Repeats ask p) → Acts command s session t (after {T = Reply} session'' (Err error)) (Err error)
+    pub refused_acts : (error : HdfsError) → Came m ask (Err error) t → ((p : Picture) → Repeats ask p) → Acts command s session t (after {T = Reply} session' (Err error)) (Err error)
     refused_acts error came repeats =
-        late_acts error (ask_not_early m t error came.relays.tells) (looks_from-Leaves m t came.relays.leaves) (ask_tells command s m t error prepares.looks.later.counts came.relays.tells)
+        late_acts error (ask_not_early m t error came.relays.tells) (looks_from-Leaves m t came.relays.leaves) (ask_tells command s m t error quiet.0.later.counts came.relays.tells)
         (λ state ready p told.
         (let to = came.told p told (repeats p) in
         (asked_cause state ready p told error came.relays.tells to.0 to.2, (to.0, to.1, may_be_done ask p to.0 (relayed_done (CallsRose m.counts t) p ask (Err error) to.0 tt to.2)))))

@@ -44,8 +44,9 @@ use Rattle.hdfs_commands.proofs.Failing.{IsStill, late_acts, may_be_done}
 use Rattle.hdfs_commands.proofs.Opening.{Over}
 use Rattle.hdfs_commands.proofs.Refusing.{step_there}
 use Rattle.hdfs_commands.proofs.Sized.{remembers_asked}
+use Rattle.hdfs_file_reader.proofs.Transfers.{only_asks_refl}
 use Rattle.hdfs_commands.proofs.Still.{file_stays}
-use Rattle.hdfs_commands.proofs.Turned.{Turns, prepares_refl}
+use Rattle.hdfs_commands.proofs.Turned.{Turns}
 use Rattle.hdfs_commands.proofs.WholeOpening.{stays_files}
 use Rattle.hdfs_commands.proofs.WholeStarting.{leaving_whole}
 
@@ -117,7 +118,7 @@ module _ (s t : Shown) (session : Session) (path name : List ℕ) (named : is_pa
     -- nothing stands there
     missed_acts : Acts info s session t (after {T = Reply} asked (Err (errors.FileNotFound name))) (Err (errors.FileNotFound name))
     missed_acts =
-        late_acts info (info_still name) s s session session stands (prepares_refl s session) t asked (λ r. refl) (remembers_asked session namenode keeps) ask path (λ state. called) info_over
+        late_acts info (info_still name) s s session stands (only_asks_refl s) t asked (λ r. refl) (remembers_asked session namenode keeps) ask path (λ state. called) info_over
         (errors.FileNotFound name) refl (looks_from-Leaves s t came.relays.leaves) ((refl, tt), (came.relays.fine, tt))
         (λ state ready p told.
         (let one = row_of state ready p told None came in
@@ -129,7 +130,7 @@ module _ (s t : Shown) (session : Session) (path name : List ℕ) (named : is_pa
     -- and there is no memory to say so
     unsaid_acts : Acts info s session t (after {T = Reply} asked (Err errors.NoMemory)) (Err errors.NoMemory)
     unsaid_acts =
-        late_acts info (info_still name) s s session session stands (prepares_refl s session) t asked (λ r. refl) (remembers_asked session namenode keeps) ask path (λ state. called) info_over
+        late_acts info (info_still name) s s session stands (only_asks_refl s) t asked (λ r. refl) (remembers_asked session namenode keeps) ask path (λ state. called) info_over
         errors.NoMemory refl (looks_from-Leaves s t came.relays.leaves) (tt, (tt, tt))
         (λ state ready p told. (let one = row_of state ready p told None came in ((tt, tt), (one.0, one.1, inl one.3))))
 

@@ -32,8 +32,8 @@ pub mod Refusing
 pub mod SendActs
 pub mod SendFails
 pub mod Sending
+pub mod Served
 pub mod Sized
-pub mod Sizing
 pub mod Starting
 pub mod Stepping
 pub mod Still

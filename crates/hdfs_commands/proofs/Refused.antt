@@ -13,7 +13,7 @@ use Rattle.hdfs_cluster.specs.Shown.{Shown}
 use Rattle.hdfs_file_reader.specs.Files.{LacksRange}
 use Rattle.hdfs_file_reader.specs.Looking.{AnswersLookUp, TellsLookUp}
 use Rattle.hdfs_file_reader.specs.Ranges.{FailsAt}
-use Rattle.hdfs_model.specs.Causes.{CanEnd, Sends, Tells}
+use Rattle.hdfs_model.specs.Causes.{CanEnd, Sends}
 use Rattle.hdfs_model.specs.Opening.{AnswersDefaults}
 use Rattle.hdfs_model.specs.declared.commands.Command.{Command}
 use Rattle.hdfs_model.specs.declared.commands.Command.TheVariants as commands

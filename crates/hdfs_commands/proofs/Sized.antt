@@ -1,8 +1,9 @@
 -- What the writers of a session are made with, and what a session remembers of it.
-use Rattle.std.proofs.Common.{◌≡◌, ℕ, true, Option, Some, refl, sym, ◌∙◌, ap, subst}
-use Rattle.std.specs.BTreeMap.{BTreeMap}
-use Rattle.std.specs.Prelude.{IfSome, String}
-use Rattle.std.specs.declared.alloc.Global.{Global}
+use Rattle.std.proofs.Common.{◌≡◌, ℕ, ◌≤◌, true, ◌&&◌, nat_le, arith, Option, Some, refl, sym, ◌∙◌, ap, subst}
+use Rattle.std.proofs.lemmas.Bool.Decides.{nat_tests}
+use Rattle.std.specs.Prelude.{IfSome}
+use Rattle.hdfs_model.specs.Limits.{are_settings, begins_with_slash, is_small}
+use Rattle.hdfs_cluster.proofs.Loads.{and_parts}
 use Rattle.hdfs_model.specs.declared.commands.Settings.{Settings}
 use Rattle.hdfs_cluster.specs.declared.messages.ServerDefaults.{ServerDefaults}
 use Rattle.hdfs_cluster.specs.Files.{State}
@@ -11,39 +12,40 @@ use Rattle.hdfs_cluster.specs.Shown.{Shown}
 use Rattle.hdfs_namenode.specs.Asked.{ReachesAll}
 use Rattle.hdfs_namenode.specs.Clients.{SameClient, client_name, name_of, proxy_of}
 use Rattle.hdfs_namenode.specs.declared.protocol.NamenodeProtocol.{NamenodeProtocol}
-use Rattle.hdfs_namenode.proofs.Services.{reaches_same, same_service_refl, same_service_trans}
+use Rattle.hdfs_namenode.proofs.Services.{reaches_same, same_service_refl}
 use Rattle.hdfs_file_writer.specs.Writers.{sizes_of}
 use Rattle.hdfs_file_writer.specs.declared.file_writer.FileWriter.{FileWriter}
 use Rattle.hdfs_file_writer.specs.declared.sizes.WriteSizes.{WriteSizes}
-use Rattle.hdfs_commands.specs.Preparing.{Remembers, sizes_by}
-use Rattle.hdfs_commands.specs.Session.{Carried, IsSized, defaults_known, rebuilding_by}
+use Rattle.hdfs_commands.specs.Preparing.{Remembers}
+use Rattle.hdfs_file_writer.specs.Sizing.{sizes_by}
+use Rattle.hdfs_commands.specs.Session.{Carried, IsSized, defaults_known, rebuilding_by, terms_of}
 use Rattle.hdfs_commands.specs.declared.session.Session.{Session}
 
 -- a session that is left as it is remembers what it is run with
 pub remembers_refl : (session : Session) → Remembers session session
 remembers_refl session = record { settings = refl; name = refl; service = same_service_refl (proxy_of session.namenode); known = λ defaults is. is }
 
--- so does one behind two calls
-pub remembers_trans : (a b c : Session) → Remembers a b → Remembers b c → Remembers a c
-remembers_trans a b c one two = record {
-  settings = two.settings ∙ one.settings;
-  name = two.name ∙ one.name;
-  service = same_service_trans (proxy_of a.namenode) (proxy_of b.namenode) (proxy_of c.namenode) one.service two.service;
-  known = λ defaults is. two.known defaults (one.known defaults is);
-}
-
--- and one that has other writers
-pub remembers_with : (session : Session) (writers : BTreeMap (String Global) FileWriter)
-    → Remembers session (record session { writers = writers })
-remembers_with session writers = record { settings = refl; name = refl; service = same_service_refl (proxy_of session.namenode); known = λ defaults is. is }
-
--- and one that asks on
+-- so does one that asks on
 pub remembers_asked : (session : Session) (protocol : NamenodeProtocol) → SameClient session.namenode protocol → Remembers session (record session { namenode = protocol })
 remembers_asked session protocol same = record { settings = refl; name = same.name; service = same.service; known = λ defaults is. same.defaults ∙ is }
 
 -- and one whose command has failed
 pub remembers_failed : (a b : Session) → Remembers a b → Remembers a (record b { failed = true })
 remembers_failed a b one = record { settings = one.settings; name = one.name; service = one.service; known = one.known }
+
+le_from : (a b : ℕ) → nat_le a b ≡ true → a ≤ b
+le_from a b is = grind (arith, nat_tests, is)
+
+-- the window of the files that a session writes is in its limits
+pub window_within : (settings : Settings) → are_settings settings ≡ true → (1 ≤ settings.window) × (settings.window ≤ 1000)
+window_within set limited =
+    let small = and_parts (begins_with_slash set.home && is_small set.rebuild_limit && is_small set.window) (nat_le set.setup_limit 100) limited in
+    let window = and_parts (nat_le 1 set.window) (nat_le set.window 1000) (and_parts (begins_with_slash set.home && is_small set.rebuild_limit) (is_small set.window) small.0).1 in
+    (le_from 1 set.window window.0, le_from set.window 1000 window.1)
+
+-- with what a session writes a file that has this replication and block size
+abbrev pub sizes_in : Session → ServerDefaults → ℕ → ℕ → WriteSizes
+sizes_in session = sizes_by (terms_of session.settings).rebuilding (terms_of session.settings).setup_limit
 
 module _ (session session' : Session) (remembers : Remembers session session') where
   -- it asks in the name of its client still
@@ -67,16 +69,9 @@ module _ (session session' : Session) (remembers : Remembers session session') w
     encrypted = ap (λ (s : WriteSizes). s.encrypted) same ∙ sized.encrypted;
   }
 
-  -- it gives a file the sizes that it gave it, also where these were told by others that are the same
-  pub sizes_told : (d : ServerDefaults) {replication block_size r k : ℕ} {sizes : WriteSizes} → sizes ≡ sizes_by session' d r k → r ≡ replication → k ≡ block_size
-      → sizes ≡ sizes_by session d replication block_size
-  sizes_told d {replication} {block_size} {r} {k} is one two =
-      is ∙ ap (λ (x : ℕ). sizes_by session' d x k) one ∙ ap (λ (x : ℕ). sizes_by session' d replication x) two
-      ∙ ap (λ (s : Settings). record (sizes_by session d replication block_size) { rebuilding = rebuilding_by s; setup_limit = s.setup_limit }) remembers.settings
-
   -- so is a new one, which was given them
   pub sized_by : (d : ServerDefaults) (writer : FileWriter) (replication block_size : ℕ)
-      → sizes_of writer ≡ sizes_by session d replication block_size → defaults_known session' ≡ Some d → IsSized session' writer
+      → sizes_of writer ≡ sizes_in session d replication block_size → defaults_known session' ≡ Some d → IsSized session' writer
   sized_by d writer replication block_size sizes knows = record {
     known = d;
     is_known = knows;

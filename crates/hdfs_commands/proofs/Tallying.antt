@@ -10,8 +10,7 @@ use Rattle.hdfs_cluster.specs.Shown.{Shown, Later}
 use Rattle.hdfs_cluster.proofs.Frames.{later_trans}
 use Rattle.hdfs_cluster.proofs.Times.{fails_until}
 use Rattle.hdfs_model.specs.declared.commands.Command.{Command}
-use Rattle.hdfs_model.specs.declared.commands.Command.TheVariants as commands
-use Rattle.hdfs_model.specs.Causes.{CanEnd, Sends, Tells, UsesDefaults}
+use Rattle.hdfs_model.specs.Causes.{CanEnd, Sends, Tells}
 use Rattle.hdfs_rebuild.specs.declared.block_plan.BlockPipeline.{BlockPipeline}
 use Rattle.hdfs_block_writer.specs.BlockWriters as blocks
 use Rattle.hdfs_block_writer.specs.declared.block_writer.BlockWriter.{BlockWriter}

@@ -1,5 +1,5 @@
 -- A command that asks namenodes alone, and changes no writer: what it has come to, over a told picture, is the session's act.
-use Rattle.std.proofs.Common.{◌≡◌, ℕ, true, List, Option, Some, is_some, Ok, refl, sym, ◌∙◌, ap, subst}
+use Rattle.std.proofs.Common.{◌≡◌, ℕ, true, List, Option, Some, is_some, Ok, sym, ◌∙◌, ap, subst}
 use Rattle.std.specs.List.{list_any}
 use Rattle.std.specs.Prelude.{IfSome, Err}
 use Rattle.std.specs.Str.{bytes_eq}
@@ -11,40 +11,28 @@ use Rattle.hdfs_cluster.specs.declared.errors.HdfsError.{HdfsError}
 use Rattle.hdfs_cluster.specs.declared.messages.ServerDefaults.{ServerDefaults}
 use Rattle.hdfs_cluster.specs.Files.{IsState, Node, State, Writing}
 use Rattle.hdfs_cluster.specs.Fitting.{Fits}
-use Rattle.hdfs_cluster.specs.Picture.{Picture, SameButActive}
+use Rattle.hdfs_cluster.specs.Picture.{Picture}
 use Rattle.hdfs_cluster.specs.Repeating.{Repeats}
 use Rattle.hdfs_cluster.specs.Shown.{Shown}
 use Rattle.hdfs_cluster.specs.Stores.{Agrees, AgreesAt}
-use Rattle.hdfs_cluster.proofs.Frames.{same_files_refl, told_refl}
 use Rattle.hdfs_model.specs.Anywhere.{IsReply}
 use Rattle.hdfs_model.specs.Sessions.{IsLimited, SameOpened, defaults_of, world_of, world_with}
 use Rattle.hdfs_model.specs.Steps.{Done, is_opened, step, target_of}
 use Rattle.hdfs_namenode.specs.Relaying.{Came}
 use Rattle.hdfs_file_reader.specs.Looking.{OnlyLooks}
-use Rattle.hdfs_file_reader.proofs.Looking.{looks_refl}
 use Rattle.hdfs_file_writer.specs.Tails.{Tail, FileCarries}
 use Rattle.hdfs_file_writer.specs.Writers as files
 use Rattle.hdfs_file_writer.specs.declared.file_writer.FileWriter.{FileWriter}
 use Rattle.hdfs_commands.specs.Acting.{Acts, IsReady, world_at}
-use Rattle.hdfs_commands.specs.Preparing.{Prepares, Remembers}
+use Rattle.hdfs_commands.specs.Preparing.{Remembers}
 use Rattle.hdfs_commands.specs.Session.{Carried, CarriesFile, Stands, after, defaults_known, opened_of, writer_of}
 use Rattle.hdfs_commands.specs.declared.session.Session.{Session}
 use Rattle.hdfs_commands.proofs.Acted.{reads_same}
 use Rattle.hdfs_commands.proofs.Failing.{IsStill, refused_acts}
 use Rattle.hdfs_commands.proofs.Moved.{links_moved, session_moved}
 use Rattle.hdfs_commands.proofs.Opening.{Over}
-use Rattle.hdfs_commands.proofs.Sized.{remembers_refl}
+use Rattle.hdfs_file_reader.proofs.Transfers.{only_asks_refl}
 use Rattle.hdfs_commands.proofs.Tallying.{tallied_moved}
-
--- a session that hasn't asked yet
-pub prepares_refl : (s : Shown) (session : Session) → Prepares s session s session
-prepares_refl s session = record {
-  looks = looks_refl s;
-  picture = told_refl SameButActive s.picture (λ p. record { files = same_files_refl p; reads = λ link. refl; writes = λ link. refl });
-  remembers = remembers_refl session;
-  writers = refl;
-  failed = refl;
-}
 
 -- The command is done over a state, and the picture agrees with the next one. What the session has open stands as it stood, and what its
 -- writers carry they carry still.
@@ -71,7 +59,7 @@ module _ (command : Command) (s t : Shown) (session session' : Session) (stands 
       → (error : HdfsError) → Came s ask (Err error) t → ((p : Picture) → Repeats ask p)
       → Acts command s session t (after {T = Reply} session' (Err error)) (Err error)
   asked_acts still ask path called over error came repeats =
-      refused_acts command still s s session session stands (prepares_refl s session) t session' writers remembers ask path (λ state. called) over error came repeats
+      refused_acts command still s s session stands (only_asks_refl s) t session' writers remembers ask path (λ state. called) over error came repeats
 
   module _ (known : defaults_known session' ≡ defaults_known session) (fine : session'.failed ≡ session.failed) (reply : Reply)
       (turns : (state : State) → IsReady s session state command → Turns s t session state command reply) where

@@ -1,21 +1,20 @@
 -- What commands that open a file to be written make of blocks, and commands that leave all files.
-use Rattle.std.proofs.Common.{◌≡◌, ℕ, ◌≤◌, true, List, Some, Result, Ok, Err, sym, ◌∙◌, ap, subst}
+use Rattle.std.proofs.Common.{◌≡◌, ℕ, ◌≤◌, true, List, Some, Result, Ok, Err, subst}
 use Rattle.hdfs_model.specs.declared.commands.Command.{Command}
 use Rattle.hdfs_model.specs.declared.commands.Command.TheVariants as commands
 use Rattle.hdfs_model.specs.declared.commands.Reply.{Reply}
 use Rattle.hdfs_model.specs.declared.commands.WriteOptions.{WriteOptions}
 use Rattle.hdfs_cluster.specs.declared.errors.HdfsError.{HdfsError}
 use Rattle.hdfs_cluster.specs.Effects.{blocks_at}
-use Rattle.hdfs_names.specs.Paths.{absolute}
 use Rattle.hdfs_cluster.specs.Picture.{Picture}
 use Rattle.hdfs_cluster.specs.Shown.{Shown}
-use Rattle.hdfs_model.specs.Steps.{path_of, target_of}
+use Rattle.hdfs_model.specs.Steps.{target_of}
 use Rattle.hdfs_file_writer.specs.Tails.{tail_length}
 use Rattle.hdfs_cluster.specs.WholeBlocks.{IsWhole, IsOfSize, AllBetween}
 use Rattle.hdfs_file_writer.specs.Writers.{sizes_of, tail_of}
 use Rattle.hdfs_file_writer.specs.declared.file_writer.FileWriter.{FileWriter}
 use Rattle.hdfs_commands.specs.Acting.{world_at}
-use Rattle.hdfs_commands.specs.Session.{settings_of, writer_of}
+use Rattle.hdfs_commands.specs.Session.{writer_of}
 use Rattle.hdfs_commands.specs.Whole.{AreFilled, AreWhole, KeepsBlocksWhole, KeepsWhole}
 use Rattle.hdfs_commands.specs.declared.session.Session.{Session}
 use Rattle.hdfs_commands.proofs.WholeBeside.{StaysAt, filled_beside, whole_beside}

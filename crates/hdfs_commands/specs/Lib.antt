@@ -1,6 +1,5 @@
 pub mod Acting
 pub mod Asking
-pub mod Encrypted
 pub mod Executing
 pub mod Meeting
 pub mod Preparing

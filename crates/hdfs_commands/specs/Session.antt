@@ -24,6 +24,7 @@ use Rattle.hdfs_file_writer.specs.Tails.{FileCarries}
 use Rattle.hdfs_file_writer.specs.Writers as files
 use Rattle.hdfs_rebuild.specs.declared.block_plan.RebuildSettings.{RebuildSettings}
 use Rattle.hdfs_file_writer.specs.declared.file_writer.FileWriter.{FileWriter}
+use Rattle.hdfs_opening.specs.declared.opened_file.WriteTerms.{WriteTerms}
 use Rattle.hdfs_commands.specs.declared.session.Session.{Session}
 
 -- what it is run with
@@ -71,6 +72,10 @@ after session (Err error) = record session { failed = true }
 -- how the pipelines of a session's files are rebuilt, by its settings
 abbrev pub rebuilding_by : Settings → RebuildSettings
 rebuilding_by settings = record { window = settings.window; rebuild_limit = settings.rebuild_limit; replace = settings.replace }
+
+-- what is settled of its writers before their files are opened
+abbrev pub terms_of : Settings → WriteTerms
+terms_of settings = record { rebuilding = rebuilding_by settings; setup_limit = settings.setup_limit }
 
 -- A writer sets up and rebuilds pipelines as the session's settings say, has the sizes of packets of the cluster's defaults, which the session
 -- knows, and goes by them on whether data is to be encrypted.

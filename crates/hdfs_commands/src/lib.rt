@@ -1,7 +1,6 @@
 //! Sessions: commands over the files of one service.
 #![tactic(auto)]
 
-mod encrypted;
 mod listing;
 mod naming;
 mod placing;

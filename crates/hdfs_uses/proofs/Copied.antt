@@ -23,10 +23,10 @@ made_there (Ok there) is = (there, refl)
 made_there (Err error) is = absurd (cc is)
 
 -- a directory whose ask was answered was made
-pub makes_by : {C : Type 0} (shown : C → Shown) (serves : C → ℕ → Ask → Result Answer AskFault → C → Type 0) (client client' : Client) (path : List ℕ) (old new : C)
+pub makes_by : {C : Type 0} (shown : C → Shown) (may_answer : Ask → Answer → Type 0) (serves : C → ℕ → Ask → Result Answer AskFault → C → Type 0) (client client' : Client) (path : List ℕ) (old new : C)
     → Gives serves true (λ at. asks.Mkdirs at 493 true) answers.Mkdirs client path old client' new (λ made. Ok tt ≡ done made)
-    → Makes shown serves client path old client' new
-makes_by shown serves client client' path old new gives = record { outcome = gives.outcome; asks = gives.asks; has = made_there gives.outcome gives.has }
+    → Makes shown may_answer serves client path old client' new
+makes_by shown may_answer serves client client' path old new gives = record { outcome = gives.outcome; asks = gives.asks; has = made_there gives.outcome gives.has }
 
 -- one more was copied
 pub copied_more : (IsOne : FileStatus → ℕ → Type 0) (before found : List FileStatus) (status : FileStatus) (copied n copied' : ℕ) → found ≡ before ++ status ∷ []
@@ -39,11 +39,11 @@ copied_more IsOne before found status copied n copied' are so one is = (
 )
 
 -- a file was copied whose reader was made
-pub copied_by : {C : Type 0} (shown : C → Shown) (serves : C → ℕ → Ask → Result Answer AskFault → C → Type 0) (client between : Client) (from to : List ℕ) (old mid new : C)
+pub copied_by : {C : Type 0} (shown : C → Shown) (may_answer : Ask → Answer → Type 0) (serves : C → ℕ → Ask → Result Answer AskFault → C → Type 0) (client between : Client) (from to : List ℕ) (old mid new : C)
     (reader : FileReader) (result : Result ℕ HdfsError) → Looks shown serves client from old (Ok reader) between mid → ShowsFile client from (shown old) (shown mid) reader
-    → IfOk result (λ count. (count ≡ length_of reader) × WritesFile shown serves between reader to mid new)
-    → IfOk result (λ count. CopiesFile shown serves client from to old count new)
-copied_by shown serves client between from to old mid new reader (Ok count) looks shows had = record {
+    → IfOk result (λ count. (count ≡ length_of reader) × WritesFile shown may_answer serves between reader to mid new)
+    → IfOk result (λ count. CopiesFile shown may_answer serves client from to old count new)
+copied_by shown may_answer serves client between from to old mid new reader (Ok count) looks shows had = record {
   reader = reader;
   between = between;
   mid = mid;
@@ -52,14 +52,14 @@ copied_by shown serves client between from to old mid new reader (Ok count) look
   counts = had.0;
   writes = had.1;
 }
-copied_by shown serves client between from to old mid new reader (Err error) looks shows had = tt
+copied_by shown may_answer serves client between from to old mid new reader (Err error) looks shows had = tt
 
 -- of what was found
-pub is_copied : {C : Type 0} (shown : C → Shown) (serves : C → ℕ → Ask → Result Answer AskFault → C → Type 0) (client client' : Client) (from to target : List ℕ) (old new : C)
+pub is_copied : {C : Type 0} (shown : C → Shown) (may_answer : Ask → Answer → Type 0) (serves : C → ℕ → Ask → Result Answer AskFault → C → Type 0) (client client' : Client) (from to target : List ℕ) (old new : C)
     (status : FileStatus) (result : Result ℕ HdfsError) → status.isdir ≡ false → IsTarget from to status.path target
-    → IfOk result (λ count. CopiesFile shown serves client status.path target old count new)
-    → IfOk result (IsCopied shown serves (mounts_of client) from to status)
-is_copied shown serves client client' from to target old new status (Ok count) file is had = record {
+    → IfOk result (λ count. CopiesFile shown may_answer serves client status.path target old count new)
+    → IfOk result (IsCopied shown may_answer serves (mounts_of client) from to status)
+is_copied shown may_answer serves client client' from to target old new status (Ok count) file is had = record {
   client = client;
   old = old;
   client' = client';
@@ -67,11 +67,11 @@ is_copied shown serves client client' from to target old new status (Ok count) f
   by = refl;
   target = target;
   is = is;
-  copies = subst (λ (dir : Bool). Copies shown serves dir client status.path target old count client' new) (sym file) had;
+  copies = subst (λ (dir : Bool). Copies shown may_answer serves dir client status.path target old count client' new) (sym file) had;
 }
-is_copied shown serves client client' from to target old new status (Err error) file is had = tt
+is_copied shown may_answer serves client client' from to target old new status (Err error) file is had = tt
 
 -- a client with the same mounts copies by the same
-pub copied_same : {C : Type 0} (shown : C → Shown) (serves : C → ℕ → Ask → Result Answer AskFault → C → Type 0) (client client' : Client) (from to : List ℕ) (status : FileStatus) (count : ℕ)
-    → mounts_of client' ≡ mounts_of client → IsCopied shown serves (mounts_of client') from to status count → IsCopied shown serves (mounts_of client) from to status count
-copied_same shown serves client client' from to status count same is = subst (λ (m : MountTable). IsCopied shown serves m from to status count) same is
+pub copied_same : {C : Type 0} (shown : C → Shown) (may_answer : Ask → Answer → Type 0) (serves : C → ℕ → Ask → Result Answer AskFault → C → Type 0) (client client' : Client) (from to : List ℕ) (status : FileStatus) (count : ℕ)
+    → mounts_of client' ≡ mounts_of client → IsCopied shown may_answer serves (mounts_of client') from to status count → IsCopied shown may_answer serves (mounts_of client) from to status count
+copied_same shown may_answer serves client client' from to status count same is = subst (λ (m : MountTable). IsCopied shown may_answer serves m from to status count) same is

@@ -75,7 +75,7 @@ pub record Fills (reader : FileReader) (client : Client) (old : Shown) (writer :
   pub all : length bytes ≡ length_of reader
   pub closed : (file : inner.FileWriter) → open_of writer' ≡ Some file → files.Closed last file new
 
-module _ {C : Type 0} (shown : C → Shown) (serves : C → ℕ → Ask → Result Answer AskFault → C → Type 0) where
+module _ {C : Type 0} (shown : C → Shown) (may_answer : Ask → Answer → Type 0) (serves : C → ℕ → Ask → Result Answer AskFault → C → Type 0) where
   -- a directory was made at a path, with those above it
   abbrev pub Makes : Client → List ℕ → C → Client → C → Type 0
   Makes client path old client' new =
@@ -86,7 +86,7 @@ module _ {C : Type 0} (shown : C → Shown) (serves : C → ℕ → Ask → Resu
     pub writer : FileWriter
     pub between : Client
     pub mid : C
-    pub created : CreatedAt shown serves client to old writer between mid
+    pub created : CreatedAt shown may_answer serves client to old writer between mid
     pub begun : BegunNew client to (shown old) writer between (shown mid)
     pub bytes : List ℕ
     pub fills : Fills reader between (shown mid) writer bytes (shown new)
@@ -124,16 +124,16 @@ pub data AreCopied (IsOne : FileStatus → ℕ → Type 0) : List FileStatus →
       → AreCopied IsOne (found ++ status ∷ []) (count + n)
 
 -- A directory was made, and what was found was copied to below it: so many bytes, or 2^64 - 1 where they are more.
-pub record CopiesAll {C : Type 0} (shown : C → Shown) (serves : C → ℕ → Ask → Result Answer AskFault → C → Type 0) (mounts : MountTable)
+pub record CopiesAll {C : Type 0} (shown : C → Shown) (may_answer : Ask → Answer → Type 0) (serves : C → ℕ → Ask → Result Answer AskFault → C → Type 0) (mounts : MountTable)
     (found : List FileStatus) (from to : List ℕ) (copied : ℕ) : Type 0 where
   pub client : Client
   pub old : C
   pub client' : Client
   pub new : C
   pub by : mounts_of client ≡ mounts
-  pub makes : Makes shown serves client to old client' new
+  pub makes : Makes shown may_answer serves client to old client' new
   pub count : ℕ
-  pub copies : AreCopied (IsCopied shown serves mounts from to) found count
+  pub copies : AreCopied (IsCopied shown may_answer serves mounts from to) found count
   pub counts : copied ≡ min count (2 ^ 64 - 1)
 
 -- that, of all that was found from a path on
@@ -141,4 +141,4 @@ pub record CopiesTree {C : Type 0} (shown : C → Shown) (serves : C → ℕ →
     (may_answer : Ask → Answer → Type 0) (mounts : MountTable) (from to : List ℕ) (copied : ℕ) : Type 0 where
   pub found : List FileStatus
   pub lists : Lists (HasAll may_answer mounts) true from found
-  pub all : CopiesAll shown serves mounts found from to copied
+  pub all : CopiesAll shown may_answer serves mounts found from to copied

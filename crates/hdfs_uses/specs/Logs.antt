@@ -47,20 +47,20 @@ pub record Stops {C : Type 0} (shown : C → Shown) (Opens : FileWriter → Clie
   pub last : Shown
   pub fails : FailsToFinish (shown mid) writer bytes error last
 
-module _ {C : Type 0} (shown : C → Shown) (serves : C → ℕ → Ask → Result Answer AskFault → C → Type 0) where
+module _ {C : Type 0} (shown : C → Shown) (may_answer : Ask → Answer → Type 0) (serves : C → ℕ → Ask → Result Answer AskFault → C → Type 0) where
   -- A record was put behind the file at a path, or why not: that couldn't be opened, or its writer has failed.
   pub record AppendsRecord (client : Client) (path bytes : List ℕ) (old : C) (result : Result (Unit {0}) HdfsError) (client' : Client)
       (new : C) : Type 0 where
     pub ok : OnOk result (AppendsAt client path (shown old) bytes (shown new))
-    pub err : IfErr result (λ error. NotAppended shown serves client path old error client' new
-        ⊎ Stops shown (AppendedAt shown serves client path old) bytes error)
+    pub err : IfErr result (λ error. NotAppended shown may_answer serves client path old error client' new
+        ⊎ Stops shown (AppendedAt shown may_answer serves client path old) bytes error)
 
   -- A record was put into a new file, or why not.
   pub record CreatesRecord (client : Client) (path bytes : List ℕ) (old : C) (result : Result (Unit {0}) HdfsError) (client' : Client)
       (new : C) : Type 0 where
     pub ok : OnOk result (CreatesAt client path (shown old) bytes (shown new))
-    pub err : IfErr result (λ error. NotCreated shown serves client path old error client' new
-        ⊎ Stops shown (CreatedAt shown serves client path old) bytes error)
+    pub err : IfErr result (λ error. NotCreated shown may_answer serves client path old error client' new
+        ⊎ Stops shown (CreatedAt shown may_answer serves client path old) bytes error)
 
   -- A record was put behind a log: the last file was tried first. Where that didn't come to an error that advises to ask again, this is the
   -- answer, the log is what it was, and nothing more was done; else the log has rolled, and the answer is that of the new file.

@@ -15,7 +15,8 @@ use Rattle.hdfs_file_writer.specs.Tails.{FileCarries}
 use Rattle.hdfs_file_writer.specs.Writers as files
 use Rattle.hdfs_file_writer.specs.declared.file_writer.FileWriter as inner
 use Rattle.hdfs_model.specs.declared.commands.WriteOptions.{WriteOptions}
-use Rattle.hdfs_client.specs.Opening.{BeginsAgain, BeginsNew, CreatesBy, FailsToAppend, FailsToCreate, OpensBy}
+use Rattle.hdfs_opening.specs.Opening.{BeginsAgain, BeginsNew}
+use Rattle.hdfs_client.specs.Opening.{CreatesBy, FailsToAppend, FailsToCreate, OpensBy}
 use Rattle.hdfs_client.specs.Writing.{GoesOn, IsWriterOf, OpensAt, OpensNone, ReachesWhole, WritesWhole, open_of, rebuilding_of}
 use Rattle.hdfs_client.specs.declared.client.Client.{Client}
 use Rattle.hdfs_client.specs.declared.writing.FileWriter.{FileWriter}
@@ -29,29 +30,29 @@ abbrev pub IsNotWhole : Client → List ℕ → Shown → HdfsError → Type 0
 IsNotWhole client path shown error =
     ((error ≡ errors.InvalidArgument args.Settings) × ¬ (ReachesWhole client path shown)) ⊎ (error ≡ errors.NoMemory)
 
-module _ {C : Type 0} (shown : C → Shown) (serves : C → ℕ → Ask → Result Answer AskFault → C → Type 0) where
+module _ {C : Type 0} (shown : C → Shown) (may_answer : Ask → Answer → Type 0) (serves : C → ℕ → Ask → Result Answer AskFault → C → Type 0) where
   -- a new file was asked for at a path, and this is its writer
   abbrev pub CreatedAt : Client → List ℕ → C → FileWriter → Client → C → Type 0
   CreatedAt client path old writer client' new =
-      OpensAt (λ at before file lease after. CreatesBy serves at plain_options (rebuilding_of client) before old file lease after new)
+      OpensAt (λ at before file lease after. CreatesBy may_answer serves at plain_options (rebuilding_of client) before old file lease after new)
       client path writer client'
 
   -- the file at a path was asked for, to be gone on with, and this is its writer
   abbrev pub AppendedAt : Client → List ℕ → C → FileWriter → Client → C → Type 0
   AppendedAt client path old writer client' new =
-      OpensAt (λ at before file lease after. OpensBy serves at (rebuilding_of client) before old file lease after new) client path writer client'
+      OpensAt (λ at before file lease after. OpensBy may_answer serves at (rebuilding_of client) before old file lease after new) client path writer client'
 
   -- why no new file is written: its service isn't whole, and nothing was asked; or it couldn't be created
   abbrev pub NotCreated : Client → List ℕ → C → HdfsError → Client → C → Type 0
   NotCreated client path old error client' new =
       (IsNotWhole client path (shown old) error × (client' ≡ client) × (new ≡ old))
-      ⊎ OpensNone (λ error at before after. FailsToCreate serves at plain_options before old error after new) client path old error client' new
+      ⊎ OpensNone (λ error at before after. FailsToCreate may_answer serves at plain_options before old error after new) client path old error client' new
 
   -- the same of one that is to be gone on with
   abbrev pub NotAppended : Client → List ℕ → C → HdfsError → Client → C → Type 0
   NotAppended client path old error client' new =
       (IsNotWhole client path (shown old) error × (client' ≡ client) × (new ≡ old))
-      ⊎ OpensNone (λ error at before after. FailsToAppend shown serves at path before old error after new) client path old error client' new
+      ⊎ OpensNone (λ error at before after. FailsToAppend shown may_answer serves at path before old error after new) client path old error client' new
 
 -- over a told picture the new file has no bytes, and its writer carries it
 abbrev pub BegunNew : Client → List ℕ → Shown → FileWriter → Client → Shown → Type 0

@@ -56,7 +56,8 @@ fn copy_all<C: Cluster>(
 ) -> Result<u64, HdfsError>
     requires client { IsClientOf client.old (C.shown cluster.old) }
     requires all { AllowsAll C.allows }
-    ensures copies { IfOk result (CopiesAll C.shown C.serves (mounts_of client.old) found.now from.now to.now) }
+    ensures copies { IfOk result (CopiesAll C.shown C.may_answer C.serves (mounts_of client.old) found.now from.now
+        to.now) }
     ensures files { KeepsFiles C.allows C.may_answer client.old (C.shown cluster.old) client.new
         (C.shown cluster.new) }
     ensures client { IsClientOf client.new (C.shown cluster.new) }
@@ -80,7 +81,8 @@ fn copy_one<C: Cluster>(
 ) -> Result<u64, HdfsError>
     requires client { IsClientOf client.old (C.shown cluster.old) }
     requires all { AllowsAll C.allows }
-    ensures copies { IfOk result (IsCopied C.shown C.serves (mounts_of client.old) from.now to.now status.now) }
+    ensures copies { IfOk result (IsCopied C.shown C.may_answer C.serves (mounts_of client.old) from.now to.now
+        status.now) }
     ensures mounts { OnOk result (mounts_of client.new ≡ mounts_of client.old) }
     ensures files { KeepsFiles C.allows C.may_answer client.old (C.shown cluster.old) client.new
         (C.shown cluster.new) }
@@ -125,8 +127,8 @@ fn copy_file<C: Cluster>(
 ) -> Result<u64, HdfsError>
     requires client { IsClientOf client.old (C.shown cluster.old) }
     requires all { AllowsAll C.allows }
-    ensures copies { IfOk result (λ count. CopiesFile C.shown C.serves client.old from.now to.now cluster.old count
-        cluster.new) }
+    ensures copies { IfOk result (λ count. CopiesFile C.shown C.may_answer C.serves client.old from.now to.now
+        cluster.old count cluster.new) }
     ensures mounts { OnOk result (mounts_of client.new ≡ mounts_of client.old) }
     ensures files { KeepsFiles C.allows C.may_answer client.old (C.shown cluster.old) client.new
         (C.shown cluster.new) }
@@ -149,7 +151,7 @@ fn copy_by<C: Cluster>(
     requires reader { Stands reader.now × ReadsBy client.old reader.now }
     requires all { AllowsAll C.allows }
     ensures copies { IfOk result (λ count. (count ≡ length_of reader.now)
-        × WritesFile C.shown C.serves client.old reader.now to.now cluster.old cluster.new) }
+        × WritesFile C.shown C.may_answer C.serves client.old reader.now to.now cluster.old cluster.new) }
     ensures mounts { OnOk result (mounts_of client.new ≡ mounts_of client.old) }
     ensures files { KeepsFiles C.allows C.may_answer client.old (C.shown cluster.old) client.new
         (C.shown cluster.new) }

@@ -50,7 +50,7 @@ pub(crate) fn put<C: Cluster>(
 ) -> Result<(), HdfsError>
     requires client { IsClientOf client.old (C.shown cluster.old) }
     requires all { AllowsAll C.allows }
-    ensures puts { Puts C.shown C.serves client.old log.old bytes.now cluster.old result client.new log.new
+    ensures puts { Puts C.shown C.may_answer C.serves client.old log.old bytes.now cluster.old result client.new log.new
         cluster.new }
     ensures files { KeepsFiles C.allows C.may_answer client.old (C.shown cluster.old) client.new
         (C.shown cluster.new) }
@@ -75,8 +75,8 @@ fn append_record<C: Cluster>(
 ) -> Result<(), HdfsError>
     requires client { IsClientOf client.old (C.shown cluster.old) }
     requires all { AllowsAll C.allows }
-    ensures appends { AppendsRecord C.shown C.serves client.old (path_of log.now) bytes.now cluster.old result
-        client.new cluster.new }
+    ensures appends { AppendsRecord C.shown C.may_answer C.serves client.old (path_of log.now) bytes.now cluster.old
+        result client.new cluster.new }
     ensures files { KeepsFiles C.allows C.may_answer client.old (C.shown cluster.old) client.new
         (C.shown cluster.new) }
     ensures client { IsClientOf client.new (C.shown cluster.new) }
@@ -96,8 +96,8 @@ fn append_at<C: Cluster>(
 ) -> Result<(), HdfsError>
     requires client { IsClientOf client.old (C.shown cluster.old) }
     requires all { AllowsAll C.allows }
-    ensures appends { AppendsRecord C.shown C.serves client.old path.now bytes.now cluster.old result client.new
-        cluster.new }
+    ensures appends { AppendsRecord C.shown C.may_answer C.serves client.old path.now bytes.now cluster.old result
+        client.new cluster.new }
     ensures files { KeepsFiles C.allows C.may_answer client.old (C.shown cluster.old) client.new
         (C.shown cluster.new) }
     ensures client { IsClientOf client.new (C.shown cluster.new) }
@@ -118,8 +118,8 @@ fn create_record<C: Cluster>(
 ) -> Result<(), HdfsError>
     requires client { IsClientOf client.old (C.shown cluster.old) }
     requires all { AllowsAll C.allows }
-    ensures creates { CreatesRecord C.shown C.serves client.old (path_of log.now) bytes.now cluster.old result
-        client.new cluster.new }
+    ensures creates { CreatesRecord C.shown C.may_answer C.serves client.old (path_of log.now) bytes.now cluster.old
+        result client.new cluster.new }
     ensures files { KeepsFiles C.allows C.may_answer client.old (C.shown cluster.old) client.new
         (C.shown cluster.new) }
     ensures client { IsClientOf client.new (C.shown cluster.new) }
@@ -139,8 +139,8 @@ fn create_at<C: Cluster>(
 ) -> Result<(), HdfsError>
     requires client { IsClientOf client.old (C.shown cluster.old) }
     requires all { AllowsAll C.allows }
-    ensures creates { CreatesRecord C.shown C.serves client.old path.now bytes.now cluster.old result client.new
-        cluster.new }
+    ensures creates { CreatesRecord C.shown C.may_answer C.serves client.old path.now bytes.now cluster.old result
+        client.new cluster.new }
     ensures files { KeepsFiles C.allows C.may_answer client.old (C.shown cluster.old) client.new
         (C.shown cluster.new) }
     ensures client { IsClientOf client.new (C.shown cluster.new) }

@@ -32,14 +32,14 @@ pub(crate) fn create<C: Cluster>(
 ) -> Result<FileWriter, HdfsError>
     requires client { IsClientOf client.old (C.shown cluster.old) }
     requires all { AllowsAll C.allows }
-    ensures created { IfOk result (λ writer. CreatedAt C.shown C.serves client.old path.now cluster.old writer
-        client.new cluster.new) }
+    ensures created { IfOk result (λ writer. CreatedAt C.shown C.may_answer C.serves client.old path.now cluster.old
+        writer client.new cluster.new) }
     ensures begins { IfOk result (λ writer. BegunNew client.old path.now (C.shown cluster.old) writer client.new
         (C.shown cluster.new)) }
     ensures stands { IfOk result (λ writer. IsWholeWriter client.new (C.shown cluster.new) writer
         × IsAnsweredTo C.may_answer client.new writer) }
-    ensures err { IfErr result (λ error. NotCreated C.shown C.serves client.old path.now cluster.old error client.new
-        cluster.new) }
+    ensures err { IfErr result (λ error. NotCreated C.shown C.may_answer C.serves client.old path.now cluster.old
+        error client.new cluster.new) }
     ensures files { KeepsFiles C.allows C.may_answer client.old (C.shown cluster.old) client.new
         (C.shown cluster.new) }
     ensures client { IsClientOf client.new (C.shown cluster.new) }
@@ -58,14 +58,14 @@ pub(crate) fn append<C: Cluster>(
 ) -> Result<FileWriter, HdfsError>
     requires client { IsClientOf client.old (C.shown cluster.old) }
     requires all { AllowsAll C.allows }
-    ensures opened { IfOk result (λ writer. AppendedAt C.shown C.serves client.old path.now cluster.old writer
-        client.new cluster.new) }
+    ensures opened { IfOk result (λ writer. AppendedAt C.shown C.may_answer C.serves client.old path.now cluster.old
+        writer client.new cluster.new) }
     ensures begins { IfOk result (λ writer. BegunAgain client.old path.now (C.shown cluster.old) writer client.new
         (C.shown cluster.new)) }
     ensures stands { IfOk result (λ writer. IsWholeWriter client.new (C.shown cluster.new) writer
         × IsAnsweredTo C.may_answer client.new writer) }
-    ensures err { IfErr result (λ error. NotAppended C.shown C.serves client.old path.now cluster.old error client.new
-        cluster.new) }
+    ensures err { IfErr result (λ error. NotAppended C.shown C.may_answer C.serves client.old path.now cluster.old
+        error client.new cluster.new) }
     ensures files { KeepsFiles C.allows C.may_answer client.old (C.shown cluster.old) client.new
         (C.shown cluster.new) }
     ensures client { IsClientOf client.new (C.shown cluster.new) }

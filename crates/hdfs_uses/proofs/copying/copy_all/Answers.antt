@@ -27,7 +27,7 @@ statuses-preserved g c =
       files = files_trans c.statuses.invariant.files c.in_ok-copy_one.ensures.files;
       copies = copied_more _ (take c.statuses.status-index c.args.found.now) _ c.status-item.result c.statuses.copied c.in_ok-copy_one.field-0 c.saturating_add-copied.result
           (front_is c.args.found.now c.statuses.status-index c.status-item.result c.statuses-test.true c.status-item.is) c.statuses.invariant.copies
-          (copied_same g.C.Cluster.shown g.C.Cluster.serves c.args.client.now c.statuses.client c.args.from.now c.args.to.now c.status-item.result c.in_ok-copy_one.field-0 c.statuses.invariant.mounts c.in_ok-copy_one.ensures.copies)
+          (copied_same g.C.Cluster.shown g.C.Cluster.may_answer g.C.Cluster.serves c.args.client.now c.statuses.client c.args.from.now c.args.to.now c.status-item.result c.in_ok-copy_one.field-0 c.statuses.invariant.mounts c.in_ok-copy_one.ensures.copies)
           c.saturating_add-copied.ensures;
     }
 
@@ -43,9 +43,9 @@ returns-clause-copies g c =
       client' = c.mkdirs.new.self;
       new = c.mkdirs.new.cluster;
       by = refl;
-      makes = makes_by g.C.Cluster.shown g.C.Cluster.serves c.args.client.now _ c.args.to.now c.args.cluster.now _ (c.in_ok-mkdirs.ensures.asked refl);
+      makes = makes_by g.C.Cluster.shown g.C.Cluster.may_answer g.C.Cluster.serves c.args.client.now _ c.args.to.now c.args.cluster.now _ (c.in_ok-mkdirs.ensures.asked refl);
       count = so.0;
-      copies = subst (λ (found : List _). AreCopied (IsCopied g.C.Cluster.shown g.C.Cluster.serves (mounts_of c.args.client.now) c.args.from.now c.args.to.now) found so.0)
+      copies = subst (λ (found : List _). AreCopied (IsCopied g.C.Cluster.shown g.C.Cluster.may_answer g.C.Cluster.serves (mounts_of c.args.client.now) c.args.from.now c.args.to.now) found so.0)
           (take_all c.statuses.status-index c.args.found.now c.statuses-test.false) so.1;
       counts = so.2;
     }

@@ -11,6 +11,6 @@ invariant-statuses g l = record {
   mounts : mounts_of l.client ≡ mounts_of l.fn.client;
   files : KeepsFiles g.C.Cluster.allows g.C.Cluster.may_answer l.fn.client (g.C.Cluster.shown l.fn.cluster) l.client (g.C.Cluster.shown l.cluster);
   copies : (count : ℕ)
-      × AreCopied (IsCopied g.C.Cluster.shown g.C.Cluster.serves (mounts_of l.fn.client) l.from l.to) (take l.status-index l.found) count
+      × AreCopied (IsCopied g.C.Cluster.shown g.C.Cluster.may_answer g.C.Cluster.serves (mounts_of l.fn.client) l.from l.to) (take l.status-index l.found) count
       × (l.copied ≡ min count (2 ^ 64 - 1));
 }

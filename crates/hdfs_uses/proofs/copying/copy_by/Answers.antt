@@ -13,7 +13,7 @@ fill-requires-clause-writer g c = c.in_ok-writer.ensures.stands
 pub returns-in_err-fill-clause-files : goal.returns-in_err-fill-clause-files
 returns-in_err-fill-clause-files g c =
     files_trans c.create.ensures.files
-    (c.in_err-fill.ensures.files (created_idle g.C.Cluster.shown g.C.Cluster.serves c.args.client.now _ c.args.to.now c.args.to.now c.args.cluster.now _ (g.C.Cluster.shown c.args.cluster.now) c.in_ok-writer.writer c.in_ok-writer.ensures.created))
+    (c.in_err-fill.ensures.files (created_idle g.C.Cluster.shown g.C.Cluster.may_answer g.C.Cluster.serves c.args.client.now _ c.args.to.now c.args.to.now c.args.cluster.now _ (g.C.Cluster.shown c.args.cluster.now) c.in_ok-writer.writer c.in_ok-writer.ensures.created))
 
 pub returns-clause-copies : goal.returns-clause-copies
 returns-clause-copies g c = (
@@ -35,4 +35,4 @@ returns-clause-mounts g c = c.in_ok-fill.ensures.mounts ∙ c.in_ok-writer.ensur
 pub returns-clause-files : goal.returns-clause-files
 returns-clause-files g c =
     files_trans c.create.ensures.files
-    (c.in_ok-fill.ensures.files (created_idle g.C.Cluster.shown g.C.Cluster.serves c.args.client.now _ c.args.to.now c.args.to.now c.args.cluster.now _ (g.C.Cluster.shown c.args.cluster.now) c.in_ok-writer.writer c.in_ok-writer.ensures.created))
+    (c.in_ok-fill.ensures.files (created_idle g.C.Cluster.shown g.C.Cluster.may_answer g.C.Cluster.serves c.args.client.now _ c.args.to.now c.args.to.now c.args.cluster.now _ (g.C.Cluster.shown c.args.cluster.now) c.in_ok-writer.writer c.in_ok-writer.ensures.created))

@@ -10,7 +10,7 @@ read-requires-clause-allowed g c = λ to leads. c.requires.all _
 
 pub returns-in-Ok-clause-copies : goal.returns-in-Ok-clause-copies
 returns-in-Ok-clause-copies g c =
-    copied_by g.C.Cluster.shown g.C.Cluster.serves c.args.client.now _ c.args.from.now c.args.to.now c.args.cluster.now _ _ c.in-Ok.reader c.copy_by.result c.in-Ok.ensures.asked c.in-Ok.ensures.shows
+    copied_by g.C.Cluster.shown g.C.Cluster.may_answer g.C.Cluster.serves c.args.client.now _ c.args.from.now c.args.to.now c.args.cluster.now _ _ c.in-Ok.reader c.copy_by.result c.in-Ok.ensures.asked c.in-Ok.ensures.shows
     c.copy_by.ensures.copies
 
 pub returns-in-Ok-clause-mounts : goal.returns-in-Ok-clause-mounts

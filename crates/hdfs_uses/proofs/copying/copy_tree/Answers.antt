@@ -17,8 +17,8 @@ pub returns-clause-copies : goal.returns-clause-copies
 returns-clause-copies g c = record {
   found = c.in_ok-found.found.items;
   lists = c.in_ok-found.ensures.listed;
-  all = subst (λ (found : List FileStatus). CopiesAll g.C.Cluster.shown g.C.Cluster.serves (mounts_of c.args.client.now) found c.args.from.now c.args.to.now c.in_ok-copied.field-0) c.as_slice.ensures.value
-      (subst (λ (m : MountTable). CopiesAll g.C.Cluster.shown g.C.Cluster.serves m c.as_slice.result.now c.args.from.now c.args.to.now c.in_ok-copied.field-0) c.in_ok-found.ensures.rest.mounts c.in_ok-copied.ensures.copies);
+  all = subst (λ (found : List FileStatus). CopiesAll g.C.Cluster.shown g.C.Cluster.may_answer g.C.Cluster.serves (mounts_of c.args.client.now) found c.args.from.now c.args.to.now c.in_ok-copied.field-0) c.as_slice.ensures.value
+      (subst (λ (m : MountTable). CopiesAll g.C.Cluster.shown g.C.Cluster.may_answer g.C.Cluster.serves m c.as_slice.result.now c.args.from.now c.args.to.now c.in_ok-copied.field-0) c.in_ok-found.ensures.rest.mounts c.in_ok-copied.ensures.copies);
 }
 
 pub returns-clause-files : goal.returns-clause-files

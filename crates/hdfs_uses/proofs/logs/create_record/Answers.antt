@@ -6,7 +6,7 @@ use Rattle.hdfs_uses.proofs.logs.create_record.Goals as goal
 
 pub returns-in-Ok-clause-creates : goal.returns-in-Ok-clause-creates
 returns-in-Ok-clause-creates g c =
-    subst (λ (path : List ℕ). CreatesRecord g.C.Cluster.shown g.C.Cluster.serves c.args.client.now path c.args.bytes.now c.args.cluster.now c.create_at.result c.create_at.new.client c.create_at.new.cluster)
+    subst (λ (path : List ℕ). CreatesRecord g.C.Cluster.shown g.C.Cluster.may_answer g.C.Cluster.serves c.args.client.now path c.args.bytes.now c.args.cluster.now c.create_at.result c.create_at.new.client c.create_at.new.cluster)
     (c.as_str.ensures ∙ c.in-Ok.ensures) c.create_at.ensures.creates
 
 pub returns-in-Err-clause-creates : goal.returns-in-Err-clause-creates

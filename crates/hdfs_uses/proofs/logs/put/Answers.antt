@@ -25,7 +25,7 @@ returns-clause-puts g c = record {
   kept = λ no. absurd (false≢true (sym no ∙ sym c.asks_again.ensures ∙ c.if-not-asks_again.false));
   rolls = λ yes. (
     c.roll.ensures,
-    subst (λ (log : Log). CreatesRecord g.C.Cluster.shown g.C.Cluster.serves c.append_record-first.new.client (path_of log) c.args.bytes.now c.append_record-first.new.cluster c.create_record.result
+    subst (λ (log : Log). CreatesRecord g.C.Cluster.shown g.C.Cluster.may_answer g.C.Cluster.serves c.append_record-first.new.client (path_of log) c.args.bytes.now c.append_record-first.new.cluster c.create_record.result
         c.create_record.new.client c.create_record.new.cluster) c.roll.ensures c.create_record.ensures.creates,
   );
 }

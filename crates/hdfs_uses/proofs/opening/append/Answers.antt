@@ -2,7 +2,7 @@
 use Rattle.std.proofs.Common.{refl, inl, inr}
 use Rattle.hdfs_client.proofs.Beside.{files_refl}
 use Rattle.hdfs_client.proofs.Leave.{lets_append}
-use Rattle.hdfs_client.specs.Opening.{BeginsAgain}
+use Rattle.hdfs_opening.specs.Opening.{BeginsAgain}
 use Rattle.hdfs_uses.proofs.Cases.{err_is, err_so, ok_so}
 use Rattle.hdfs_uses.proofs.Whole.{opens_whole}
 use Rattle.hdfs_uses.proofs.opening.append.Goals as goal

@@ -3,7 +3,8 @@ use Rattle.std.proofs.Common.{◌≡◌, true, refl, subst, inl, inr}
 use Rattle.std.specs.Prelude.{IfErr, IfOk}
 use Rattle.hdfs_client.proofs.Beside.{files_refl}
 use Rattle.hdfs_client.proofs.Leave.{lets_create}
-use Rattle.hdfs_client.specs.Opening.{BeginsNew, CreatesBy, FailsToCreate}
+use Rattle.hdfs_opening.specs.Opening.{BeginsNew}
+use Rattle.hdfs_client.specs.Opening.{CreatesBy, FailsToCreate}
 use Rattle.hdfs_client.specs.Writing.{OpensAt, OpensNone, rebuilding_of}
 use Rattle.hdfs_model.specs.Limits.{are_options}
 use Rattle.hdfs_model.specs.declared.commands.WriteOptions.{WriteOptions}
@@ -25,7 +26,7 @@ returns-in_err-check_whole-clause-files g c = files_refl c.args.client.now (g.C.
 
 pub returns-clause-created : goal.returns-clause-created
 returns-clause-created g c =
-    subst (λ (o : WriteOptions). IfOk c.create.result (λ writer. OpensAt (λ at before file lease after. CreatesBy g.C.Cluster.serves at o (rebuilding_of c.args.client.now) before
+    subst (λ (o : WriteOptions). IfOk c.create.result (λ writer. OpensAt (λ at before file lease after. CreatesBy g.C.Cluster.may_answer g.C.Cluster.serves at o (rebuilding_of c.args.client.now) before
     c.args.cluster.now file lease after c.create.new.cluster) c.args.client.now c.args.path.now writer c.create.new.self)) c.default.ensures c.create.ensures.created
 
 pub returns-clause-begins : goal.returns-clause-begins
@@ -42,5 +43,5 @@ returns-clause-stands g c = ok_so _ _ c.create.result (λ writer so. ((so.0, so.
 pub returns-clause-err : goal.returns-clause-err
 returns-clause-err g c =
     err_so _ _ c.create.result (λ error why. inr why)
-    (subst (λ (o : WriteOptions). are_options o ≡ true → IfErr c.create.result (λ error. OpensNone (λ error at before after. FailsToCreate g.C.Cluster.serves at o before c.args.cluster.now error
+    (subst (λ (o : WriteOptions). are_options o ≡ true → IfErr c.create.result (λ error. OpensNone (λ error at before after. FailsToCreate g.C.Cluster.may_answer g.C.Cluster.serves at o before c.args.cluster.now error
     after c.create.new.cluster) c.args.client.now c.args.path.now c.args.cluster.now error c.create.new.self c.create.new.cluster)) c.default.ensures c.create.ensures.err refl)

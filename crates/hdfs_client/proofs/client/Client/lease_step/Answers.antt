@@ -7,7 +7,7 @@ use Rattle.hdfs_client.specs.Leasing.{StepsOnce, or_memory}
 use Rattle.hdfs_client.proofs.Asking.{is_service}
 use Rattle.hdfs_client.proofs.ByReaders.{is_then, others_stay, was_there}
 use Rattle.hdfs_client.proofs.Beside.{keeps_files, services_but, services_trans}
-use Rattle.hdfs_client.proofs.Kept.{links_from, links_trans}
+use Rattle.hdfs_opening.proofs.Kept.{links_from, links_trans}
 use Rattle.hdfs_client.proofs.Leased.{GoesOn, all_turns, as_many, client_stepped, left_more, one_turn_more, same_at}
 use Rattle.hdfs_client.proofs.client.Client.lease_step.Goals as goal
 

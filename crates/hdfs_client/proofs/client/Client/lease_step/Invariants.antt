@@ -2,7 +2,7 @@
 use Rattle.std.proofs.Common.{◌≡◌, drop, length, Some}
 use Rattle.hdfs_namenode.specs.declared.leases.LeaseTurn.TheVariants.{Idle}
 use Rattle.hdfs_client.specs.Clients.{IsClientOf, addresses_of, mounts_of, replacement_of, services_of}
-use Rattle.hdfs_client.specs.Opening.{LeavesLinks}
+use Rattle.hdfs_opening.specs.Opening.{LeavesLinks}
 use Rattle.hdfs_client.proofs.Beside.{KeepsServices}
 use Rattle.hdfs_client.proofs.Leased.{GoesOn}
 use Rattle.hdfs_client.proofs.client.Client.lease_step.Given as goal

@@ -5,7 +5,7 @@ use Rattle.hdfs_client.specs.Writing.{link_of}
 use Rattle.hdfs_client.proofs.Beside.{of_named, own_left, services_changed, stands_apart, still_reads, still_whole, writes_whole}
 use Rattle.hdfs_namenode.specs.Views.{Whole}
 use Rattle.hdfs_client.proofs.Leased.{by_namenodes}
-use Rattle.hdfs_client.proofs.Written.{OwnLink, own_link-seen}
+use Rattle.hdfs_opening.proofs.Written.{OwnLink, own_link-seen}
 use Rattle.hdfs_cluster.specs.Requests.{LetsClose, LetsWrite}
 use Rattle.hdfs_client.proofs.writing.FileWriter.abandon.Goals as goal
 

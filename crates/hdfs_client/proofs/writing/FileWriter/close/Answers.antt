@@ -13,7 +13,7 @@ use Rattle.hdfs_client.specs.Writing as outer
 use Rattle.hdfs_client.proofs.Beside.{keeps_given, keeps_others, services_changed}
 use Rattle.hdfs_client.proofs.Given.{changes_none, may_then}
 use Rattle.hdfs_client.proofs.Serving.{below_some, client_goes, service_used, used_at}
-use Rattle.hdfs_client.proofs.Written.{OwnLink, close_link}
+use Rattle.hdfs_opening.proofs.Written.{OwnLink, close_link}
 use Rattle.hdfs_client.proofs.writing.FileWriter.close.Goals as goal
 
 pub index_mut-requires : goal.index_mut-requires

@@ -14,7 +14,7 @@ use Rattle.hdfs_client.specs.Writing as outer
 use Rattle.hdfs_client.proofs.Beside.{keeps_others, services_but}
 use Rattle.hdfs_client.proofs.Given.{changes_by}
 use Rattle.hdfs_client.proofs.Serving.{below_some, client_goes, of_put, service_used, used_at}
-use Rattle.hdfs_client.proofs.Written.{OwnLink, write_link}
+use Rattle.hdfs_opening.proofs.Written.{OwnLink, write_link}
 use Rattle.hdfs_client.proofs.writing.FileWriter.write.Goals as goal
 
 pub write-requires-clause-service : goal.write-requires-clause-service

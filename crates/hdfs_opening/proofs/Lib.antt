@@ -1,0 +1,7 @@
+pub mod Answered
+pub mod Begun
+pub mod InLimits
+pub mod Kept
+pub mod Known
+pub mod Quiet
+pub mod Written
