@@ -3,7 +3,7 @@ use Rattle.std.proofs.Common.{◌≡◌, inl, inr, ⊎_elim, ℕ, true, List, []
 use Rattle.std.proofs.lemmas.List.Elements.{Contains-push}
 use Rattle.std.specs.List.{Contains}
 use Rattle.hdfs_cluster.specs.declared.asks.Ask.{Ask}
-use Rattle.hdfs_cluster.specs.declared.asks.Ask.TheVariants as asks
+use Rattle.hdfs_cluster.specs.Asks.{abandon_block_ask}
 use Rattle.hdfs_cluster.specs.declared.asks.Answer.{Answer}
 use Rattle.hdfs_cluster.specs.declared.asks.Answer.TheVariants as answers
 use Rattle.hdfs_cluster.specs.declared.messages.Block.{Block}
@@ -23,7 +23,7 @@ module _ (block : Block) (src client : List ℕ) (file_id : Option ℕ) (p : Pic
     (still : file.is_open ≡ true) (empty : IsEmptyLast p.table file.blocks block)
     (once : (front : List ℕ) → file.blocks ≡ front ++ block.block_id ∷ [] → Contains front block.block_id → ⊥) where
   abbrev giving : Ask
-  giving = asks.AbandonBlock block src client file_id
+  giving = abandon_block_ask block src client file_id
 
   file_is : (f g : FileEntry) (e : Option Entry) → e ≡ Some (entries.File f) → e ≡ Some (entries.File g) → f ≡ g
   file_is f g e a b = cc (a, b)

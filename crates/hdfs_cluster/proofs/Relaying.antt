@@ -82,7 +82,7 @@ stands_stays kind TooMany class is = absurd is
 
 refusal_stays : (p : Picture) (ask : Ask) (class : List ℕ) → IsRefusal p ask class → is_retriable class ≡ false
 refusal_stays p (asks.GetBlockLocations src offset length) class h = ap is_retriable h.2 ∙ class_stays h.0
-refusal_stays p (asks.Create src masked client flag parents replication block_size) class h = stands_stays (kinds p src) h.0 class h.2
+refusal_stays p (asks.Create ask) class h = stands_stays (kinds p ask.src) h.0 class h.2
 refusal_stays p (asks.Append src client flag) class h = stands_stays (kinds p src) h.0 class h.2
 refusal_stays p (asks.GetFileInfo src) class h = stands_stays (kinds p src) h.0 class h.2
 refusal_stays p (asks.GetListing src from located) class (inl above) = stands_stays (kinds p src) above.0 class above.2
@@ -143,8 +143,8 @@ above_same p q src class same h = subst (λ (k : List ℕ → Option Kind). Stan
 
 refusal_same : (p q : Picture) (ask : Ask) (class : List ℕ) → kinds p ≡ kinds q → IsRefusal q ask class → IsRefusal p ask class
 refusal_same p q (asks.GetBlockLocations src offset length) class same h = subst (λ (k : List ℕ → Option Kind). StandsForNoFile k src class) (sym same) h
-refusal_same p q (asks.Create src masked client flag parents replication block_size) class same h =
-    subst (λ (k : List ℕ → Option Kind). StandsForAny (k src) (create_refusal k src (overwrites flag) parents) class) (sym same) h
+refusal_same p q (asks.Create ask) class same h =
+    subst (λ (k : List ℕ → Option Kind). StandsForAny (k ask.src) (create_refusal k ask.src (overwrites ask.create_flag) ask.create_parent) class) (sym same) h
 refusal_same p q (asks.Append src client flag) class same h = subst (λ (k : List ℕ → Option Kind). StandsForAny (k src) (append_refusal k src) class) (sym same) h
 refusal_same p q (asks.GetFileInfo src) class same h = above_same p q src class same h
 refusal_same p q (asks.GetListing src from located) class same (inl above) = inl (above_same p q src class same above)

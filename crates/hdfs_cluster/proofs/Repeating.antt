@@ -10,6 +10,7 @@ use Rattle.std.specs.Prelude.{unwrap_or}
 use Rattle.std.specs.Str.{bytes_eq}
 use Rattle.hdfs_cluster.specs.declared.asks.Ask.{Ask}
 use Rattle.hdfs_cluster.specs.declared.asks.Ask.TheVariants as asks
+use Rattle.hdfs_cluster.specs.Asks.{add_block_ask, additional_datanode_ask, complete_ask, create_ask, update_pipeline_ask}
 use Rattle.hdfs_cluster.specs.declared.asks.Answer.{Answer}
 use Rattle.hdfs_cluster.specs.declared.asks.Answer.TheVariants as answers
 use Rattle.hdfs_cluster.specs.declared.messages.Block.{Block}
@@ -123,7 +124,7 @@ defaults_repeats p = quiet_repeats asks.GetServerDefaults p quiet left right (λ
 -- create
 module _ (src client : List ℕ) (masked flag : ℕ) (parents : Bool) (replication block_size : ℕ) (p : Picture) where
   abbrev creating : Ask
-  creating = asks.Create src masked client flag parents replication block_size
+  creating = create_ask src masked client flag parents replication block_size
 
   abbrev made : FileEntry
   made = new_file masked replication block_size
@@ -173,7 +174,7 @@ module _ (src client : List ℕ) (masked flag : ℕ) (parents : Bool) (replicati
 -- complete, of a file whose last block is named
 module _ (src client : List ℕ) (last : Option Block) (id : Option ℕ) (p : Picture) (file : FileEntry) (is : IsFileAt p src file) (ends : IsLast file.blocks last) where
   abbrev completing : Ask
-  completing = asks.Complete src client last id
+  completing = complete_ask src client last id
 
   file_same : (f g : FileEntry) (e : Option Entry) → e ≡ Some (entries.File f) → e ≡ Some (entries.File g) → f ≡ g
   file_same f g e a b = cc (a, b)
@@ -297,7 +298,7 @@ module _ (src client : List ℕ) (flag : ℕ) (p : Picture) where
 -- a block has another pipeline
 module _ (client : List ℕ) (block block' : Block) (nodes : List DatanodeId) (ids : List (List ℕ)) (p : Picture) (same_id : block.block_id ≡ block'.block_id) (listed : IsSome (p.table block.block_id)) where
   abbrev naming : Ask
-  naming = asks.UpdatePipeline client block block' nodes ids
+  naming = update_pipeline_ask client block block' nodes ids
 
   abbrev renamed : ℕ → BlockEntry
   renamed n = record { length = n; stamp = block'.generation_stamp; nodes = names_of nodes }
@@ -355,7 +356,7 @@ module _ (client : List ℕ) (block block' : Block) (nodes : List DatanodeId) (i
 module _ (src client : List ℕ) (previous : Option Block) (excludes : List DatanodeInfo) (file_id : Option ℕ) (p : Picture) (file : FileEntry) (is : IsFileAt p src file) (still : file.is_open ≡ true) (ends : IsLast file.blocks previous)
     (never : (last : ℕ) → IsRetried p.table file.blocks previous last → ⊥) (known : (b : Block) → previous ≡ Some b → IsSome (p.table b.block_id)) where
   abbrev adding : Ask
-  adding = asks.AddBlock src client previous excludes file_id
+  adding = add_block_ask src client previous excludes file_id
 
   same_file : (f g : FileEntry) (e : Option Entry) → e ≡ Some (entries.File f) → e ≡ Some (entries.File g) → f ≡ g
   same_file f g e a b = cc (a, b)
@@ -525,21 +526,21 @@ stamp_repeats block client p listed = quiet_repeats (asks.UpdateBlockForPipeline
 
 -- a datanode more for a block of an open file
 pub datanode_repeats : (src : List ℕ) (block : Block) (existing excludes : List DatanodeInfo) (count : ℕ) (client : List ℕ) (ids : List (List ℕ)) (p : Picture) → IsBeingWritten p src block
-    → Repeats (asks.GetAdditionalDatanode src block existing excludes count client ids) p
-datanode_repeats src block existing excludes count client ids p written = quiet_repeats (asks.GetAdditionalDatanode src block existing excludes count client ids) p quiet left right (λ q same own. own (there p q (λ y. same.files.names y) written))
+    → Repeats (additional_datanode_ask src block existing excludes count client ids) p
+datanode_repeats src block existing excludes count client ids p written = quiet_repeats (additional_datanode_ask src block existing excludes count client ids) p quiet left right (λ q same own. own (there p q (λ y. same.files.names y) written))
   where
     there : (p q : Picture) → ((y : List ℕ) → q.names y ≡ p.names y) → IsBeingWritten p src block → IsBeingWritten q src block
     there p q same w = record { file = w.file; named = same src ∙ w.named; is_open = w.is_open; has = w.has }
 
-    quiet : (q r : Picture) (a : Answer) → Row q (asks.GetAdditionalDatanode src block existing excludes count client ids) a r → SameButActive q r
+    quiet : (q r : Picture) (a : Answer) → Row q (additional_datanode_ask src block existing excludes count client ids) a r → SameButActive q r
     quiet q r (answers.GetAdditionalDatanode located) row = row.2
     quiet q r a row = absurd row
 
-    left : (q r : Picture) (a : Answer) → SameButActive p q → Row q (asks.GetAdditionalDatanode src block existing excludes count client ids) a r → Row p (asks.GetAdditionalDatanode src block existing excludes count client ids) a r
+    left : (q r : Picture) (a : Answer) → SameButActive p q → Row q (additional_datanode_ask src block existing excludes count client ids) a r → Row p (additional_datanode_ask src block existing excludes count client ids) a r
     left q r (answers.GetAdditionalDatanode located) same row = (there q p (λ y. sym (same.files.names y)) row.0, row.1, same_trans p q r same row.2)
     left q r a same row = absurd row
 
-    right : (q r : Picture) (a : Answer) → Row p (asks.GetAdditionalDatanode src block existing excludes count client ids) a q → SameButActive q r → Row p (asks.GetAdditionalDatanode src block existing excludes count client ids) a r
+    right : (q r : Picture) (a : Answer) → Row p (additional_datanode_ask src block existing excludes count client ids) a q → SameButActive q r → Row p (additional_datanode_ask src block existing excludes count client ids) a r
     right q r (answers.GetAdditionalDatanode located) row same = (row.0, row.1, same_trans p q r row.2 same)
     right q r a row same = absurd row
 

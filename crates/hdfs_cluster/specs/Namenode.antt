@@ -151,15 +151,15 @@ IsShaped (asks.GetBlockLocations src offset length) (answers.GetBlockLocations (
     × All (λ block. block.offset + block.b.num_bytes < 2 ^ 63) found.blocks
     × (AsksWhole offset length → Follow 0 found.file_length found.blocks)
 IsShaped asks.GetServerDefaults (answers.GetServerDefaults defaults) = Unit {0}
-IsShaped (asks.Create src masked client flag parents replication block_size) (answers.Create status) = Unit {0}
+IsShaped (asks.Create ask) (answers.Create status) = Unit {0}
 IsShaped (asks.Append src client flag) (answers.Append appended) = IfSome appended.block IsToWrite
-IsShaped (asks.AddBlock src client previous excludes file_id) (answers.AddBlock block) = IsToWrite block × (block.b.num_bytes ≡ 0)
-IsShaped (asks.AbandonBlock block src client file_id) answers.AbandonBlock = Unit {0}
-IsShaped (asks.Complete src client last file_id) (answers.Complete done) = Unit {0}
+IsShaped (asks.AddBlock ask) (answers.AddBlock block) = IsToWrite block × (block.b.num_bytes ≡ 0)
+IsShaped (asks.AbandonBlock ask) answers.AbandonBlock = Unit {0}
+IsShaped (asks.Complete ask) (answers.Complete done) = Unit {0}
 IsShaped (asks.UpdateBlockForPipeline block client) (answers.UpdateBlockForPipeline located) = Unit {0}
-IsShaped (asks.GetAdditionalDatanode src block existing excludes count client ids) (answers.GetAdditionalDatanode located) =
-    IsToWrite located × HasOneMore existing located.locs
-IsShaped (asks.UpdatePipeline client block block' nodes ids) answers.UpdatePipeline = Unit {0}
+IsShaped (asks.GetAdditionalDatanode ask) (answers.GetAdditionalDatanode located) =
+    IsToWrite located × HasOneMore ask.existings located.locs
+IsShaped (asks.UpdatePipeline ask) answers.UpdatePipeline = Unit {0}
 IsShaped (asks.GetFileInfo src) (answers.GetFileInfo status) = Unit {0}
 IsShaped (asks.GetListing src behind located) (answers.GetListing page) = Unit {0}
 IsShaped asks.GetDataEncryptionKey (answers.GetDataEncryptionKey key) = Unit {0}
@@ -192,24 +192,24 @@ Row old (asks.GetBlockLocations src offset length) (answers.GetBlockLocations No
 Row old (asks.GetBlockLocations src offset length) (answers.GetBlockLocations (Some found)) new =
     (no_file (kinds old) src ≡ None) × (AsksWhole offset length → Locates old src found) × SameButActive old new
 Row old asks.GetServerDefaults (answers.GetServerDefaults defaults) new = (defaults ≡ old.defaults) × SameButActive old new
-Row old (asks.Create src masked client flag parents replication block_size) (answers.Create status) new =
-    (create_refusal (kinds old) src (overwrites flag) parents ≡ None)
-    × HasStatus (new_file masked replication block_size) status
-    × Creates src (new_file masked replication block_size) old new
+Row old (asks.Create ask) (answers.Create status) new =
+    (create_refusal (kinds old) ask.src (overwrites ask.create_flag) ask.create_parent ≡ None)
+    × HasStatus (new_file ask.masked ask.replication ask.block_size) status
+    × Creates ask.src (new_file ask.masked ask.replication ask.block_size) old new
 Row old (asks.Append src client flag) (answers.Append appended) new =
     (append_refusal (kinds old) src ≡ None)
     × ((file : FileEntry) × IsFileAt old src file × HasStatus file appended.stat × Opens src file appended.block old new)
-Row old (asks.AddBlock src client previous excludes file_id) (answers.AddBlock block) new =
-    (file : FileEntry) × IsFileAt old src file × AddsBlock src file previous excludes block old new
-Row old (asks.AbandonBlock block src client file_id) answers.AbandonBlock new =
-    (file : FileEntry) × IsFileAt old src file × (file.is_open ≡ true) × Abandons src file block old new
-Row old (asks.Complete src client last file_id) (answers.Complete true) new =
-    (file : FileEntry) × IsFileAt old src file × Completes src file last old new
+Row old (asks.AddBlock ask) (answers.AddBlock block) new =
+    (file : FileEntry) × IsFileAt old ask.src file × AddsBlock ask.src file ask.previous ask.excludes block old new
+Row old (asks.AbandonBlock ask) answers.AbandonBlock new =
+    (file : FileEntry) × IsFileAt old ask.src file × (file.is_open ≡ true) × Abandons ask.src file ask.block old new
+Row old (asks.Complete ask) (answers.Complete true) new =
+    (file : FileEntry) × IsFileAt old ask.src file × Completes ask.src file ask.last old new
 Row old (asks.UpdateBlockForPipeline block client) (answers.UpdateBlockForPipeline located) new =
     HasGreaterStamp old block located × SameButActive old new
-Row old (asks.GetAdditionalDatanode src block existing excludes count client ids) (answers.GetAdditionalDatanode located) new =
-    IsBeingWritten old src block × AddsOneOf existing excludes located.locs × SameButActive old new
-Row old (asks.UpdatePipeline client block block' nodes ids) answers.UpdatePipeline new = NamesPipeline block block' nodes old new
+Row old (asks.GetAdditionalDatanode ask) (answers.GetAdditionalDatanode located) new =
+    IsBeingWritten old ask.src ask.blk × AddsOneOf ask.existings ask.excludes located.locs × SameButActive old new
+Row old (asks.UpdatePipeline ask) answers.UpdatePipeline new = NamesPipeline ask.old_block ask.new_block ask.new_nodes old new
 Row old (asks.GetFileInfo src) (answers.GetFileInfo status) new = TellsStatus old.names old.table src status × SameButActive old new
 Row old (asks.GetListing src from located) (answers.GetListing page) new =
     TellsListing old.names old.table src from page × SameButActive old new
@@ -252,8 +252,8 @@ StandsForAbove p path class = StandsForAny (kinds p path) (above_refusal (kinds 
 -- the exception of this class stands for a refusal of the ask
 abbrev pub IsRefusal : Picture → Ask → List ℕ → Type 0
 IsRefusal p (asks.GetBlockLocations src offset length) class = StandsForNoFile (kinds p) src class
-IsRefusal p (asks.Create src masked client flag parents replication block_size) class =
-    StandsForAny (kinds p src) (create_refusal (kinds p) src (overwrites flag) parents) class
+IsRefusal p (asks.Create ask) class =
+    StandsForAny (kinds p ask.src) (create_refusal (kinds p) ask.src (overwrites ask.create_flag) ask.create_parent) class
 IsRefusal p (asks.Append src client flag) class = StandsForAny (kinds p src) (append_refusal (kinds p) src) class
 IsRefusal p (asks.GetFileInfo src) class = StandsForAbove p src class
 IsRefusal p (asks.GetListing src from located) class = StandsForAbove p src class ⊎ ((IsUtf8 from → ⊥) × (class ≡ bad_argument))
@@ -269,17 +269,17 @@ IsRefusal p ask class = ⊥
 abbrev pub IsOwn : Picture → Ask → Type 0
 IsOwn p (asks.GetBlockLocations src offset length) = kinds p src ≡ Some OpenFile
 IsOwn p asks.GetServerDefaults = ⊥
-IsOwn p (asks.Create src masked client flag parents replication block_size) = ⊥
+IsOwn p (asks.Create ask) = ⊥
 IsOwn p (asks.Append src client flag) = ⊥
-IsOwn p (asks.AddBlock src client previous excludes file_id) =
-    (file : FileEntry) → IsFileAt p src file → file.is_open ≡ true → HasBlock file.blocks previous → ⊥
-IsOwn p (asks.AbandonBlock block src client file_id) =
-    (file : FileEntry) → IsFileAt p src file → file.is_open ≡ true
-    → IsEmptyLast p.table file.blocks block ⊎ (Contains file.blocks block.block_id → ⊥) → ⊥
-IsOwn p (asks.Complete src client last file_id) = (file : FileEntry) → IsFileAt p src file → IsLast file.blocks last → ⊥
+IsOwn p (asks.AddBlock ask) =
+    (file : FileEntry) → IsFileAt p ask.src file → file.is_open ≡ true → HasBlock file.blocks ask.previous → ⊥
+IsOwn p (asks.AbandonBlock ask) =
+    (file : FileEntry) → IsFileAt p ask.src file → file.is_open ≡ true
+    → IsEmptyLast p.table file.blocks ask.block ⊎ (Contains file.blocks ask.block.block_id → ⊥) → ⊥
+IsOwn p (asks.Complete ask) = (file : FileEntry) → IsFileAt p ask.src file → IsLast file.blocks ask.last → ⊥
 IsOwn p (asks.UpdateBlockForPipeline block client) = p.table block.block_id ≡ None
-IsOwn p (asks.GetAdditionalDatanode src block existing excludes count client ids) = IsBeingWritten p src block → ⊥
-IsOwn p (asks.UpdatePipeline client block block' nodes ids) = (block.block_id ≡ block'.block_id) × IsSome (p.table block.block_id) → ⊥
+IsOwn p (asks.GetAdditionalDatanode ask) = IsBeingWritten p ask.src ask.blk → ⊥
+IsOwn p (asks.UpdatePipeline ask) = (ask.old_block.block_id ≡ ask.new_block.block_id) × IsSome (p.table ask.old_block.block_id) → ⊥
 IsOwn p (asks.GetFileInfo src) = ⊥
 IsOwn p (asks.GetListing src from located) = ⊥
 IsOwn p (asks.Mkdirs src masked parents) = ⊥
@@ -293,14 +293,14 @@ IsOwn p ask = Unit {0}
 abbrev pub src_of : Ask → Option (List ℕ)
 src_of (asks.GetBlockLocations src offset length) = Some src
 src_of asks.GetServerDefaults = Some []
-src_of (asks.Create src masked client flag parents replication block_size) = Some src
+src_of (asks.Create ask) = Some ask.src
 src_of (asks.Append src client flag) = Some src
-src_of (asks.AddBlock src client previous excludes file_id) = Some src
-src_of (asks.AbandonBlock block src client file_id) = Some src
-src_of (asks.Complete src client last file_id) = Some src
+src_of (asks.AddBlock ask) = Some ask.src
+src_of (asks.AbandonBlock ask) = Some ask.src
+src_of (asks.Complete ask) = Some ask.src
 src_of (asks.UpdateBlockForPipeline block client) = Some []
-src_of (asks.GetAdditionalDatanode src block existing excludes count client ids) = Some src
-src_of (asks.UpdatePipeline client block block' nodes ids) = Some []
+src_of (asks.GetAdditionalDatanode ask) = Some ask.src
+src_of (asks.UpdatePipeline ask) = Some []
 src_of (asks.GetFileInfo src) = Some src
 src_of (asks.GetListing src from located) = Some src
 src_of (asks.Mkdirs src masked parents) = Some src

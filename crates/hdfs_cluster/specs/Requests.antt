@@ -6,6 +6,7 @@ use Rattle.hdfs_cluster.specs.declared.asks.Answer.{Answer}
 use Rattle.hdfs_cluster.specs.declared.asks.Answer.TheVariants as answers
 use Rattle.hdfs_cluster.specs.declared.asks.Ask.{Ask}
 use Rattle.hdfs_cluster.specs.declared.asks.Ask.TheVariants as asks
+use Rattle.hdfs_cluster.specs.Asks.{abandon_block_ask, add_block_ask, additional_datanode_ask, complete_ask, create_ask, update_pipeline_ask}
 use Rattle.hdfs_cluster.specs.declared.messages.Appended.{Appended}
 use Rattle.hdfs_cluster.specs.declared.messages.Block.{Block}
 use Rattle.hdfs_cluster.specs.declared.messages.DatanodeInfo.{DatanodeInfo}
@@ -44,7 +45,7 @@ pub record IsLocated (may_answer : Ask → Answer → Type 0) (path : List ℕ) 
 pub record IsAdded (may_answer : Ask → Answer → Type 0) (client path : List ℕ) (file_id : Option ℕ) (located : LocatedBlock) : Type 0 where
   pub previous : Option Block
   pub excluded : List DatanodeInfo
-  pub answered : may_answer (asks.AddBlock path client previous excluded file_id) (answers.AddBlock located)
+  pub answered : may_answer (add_block_ask path client previous excluded file_id) (answers.AddBlock located)
 
 -- it was answered as the last block of the file at a path, when that was opened to be gone on with
 pub record IsReopened (may_answer : Ask → Answer → Type 0) (client path : List ℕ) (located : LocatedBlock) : Type 0 where
@@ -86,7 +87,7 @@ pub record IsEnlarged (may_answer : Ask → Answer → Type 0) (client path : Li
   pub existing : List DatanodeInfo
   pub excluded : List DatanodeInfo
   pub storages : List (List ℕ)
-  pub answered : may_answer (asks.GetAdditionalDatanode path named existing excluded 1 client storages) (answers.GetAdditionalDatanode located)
+  pub answered : may_answer (additional_datanode_ask path named existing excluded 1 client storages) (answers.GetAdditionalDatanode located)
   pub same : IsSameBlock block named
 
 -- the items but those at some places, where the first item has this one
@@ -172,7 +173,7 @@ pub record IsIdOfCreated (may_answer : Ask → Answer → Type 0) (client path :
   pub replication : ℕ
   pub block_size : ℕ
   pub status : Option FileStatusMsg
-  pub answered : may_answer (asks.Create path masked client create_flag create_parent replication block_size) (answers.Create status)
+  pub answered : may_answer (create_ask path masked client create_flag create_parent replication block_size) (answers.Create status)
   pub is : file_id ≡ id_in status
 
 -- the id that was answered with a file at a path that was opened to be gone on with
@@ -201,12 +202,12 @@ pub record LetsWriteBlock (allows : Request → Type 0) (may_answer : Ask → An
   pub restamps : (named : Block) → IsNamed may_answer client first named → allows (AskOf (asks.UpdateBlockForPipeline named client))
   pub adds : (named : Block) (existing excluded : List DatanodeInfo) (types : List ℕ) (storages : List (List ℕ))
       → IsNamed may_answer client first named → ArePlaced may_answer client path first existing types storages
-      → length storages ≡ length existing → allows (AskOf (asks.GetAdditionalDatanode path named existing excluded 1 client storages))
+      → length storages ≡ length existing → allows (AskOf (additional_datanode_ask path named existing excluded 1 client storages))
   pub names : (before now : Block) (token : Token) (nodes : List DatanodeInfo) (types : List ℕ) (storages : List (List ℕ))
       → IsNamed may_answer client first before → IsSameBlock first.b now
       → IsStamped may_answer client first.b before.generation_stamp now.generation_stamp token
       → ArePlaced may_answer client path first nodes types storages → length storages ≡ length nodes
-      → allows (AskOf (asks.UpdatePipeline client before now (map (λ node. node.id) nodes) storages))
+      → allows (AskOf (update_pipeline_ask client before now (map (λ node. node.id) nodes) storages))
 
 -- leave to write a block on behind a pipeline of it that was answered so
 pub record LetsGoOn (allows : Request → Type 0) (may_answer : Ask → Answer → Type 0) (client path : List ℕ) (pipeline : LocatedBlock) : Type 0 where
@@ -230,9 +231,9 @@ AreFirst may_answer client path file_id nodes =
 -- is set up.
 pub record LetsWrite (allows : Request → Type 0) (may_answer : Ask → Answer → Type 0) (client path : List ℕ) (file_id : Option ℕ) : Type 0 where
   pub adds : (previous : Option Block) (excluded : List DatanodeInfo) → IsAnsweredLast may_answer client path file_id previous
-      → AreFirst may_answer client path file_id excluded → allows (AskOf (asks.AddBlock path client previous excluded file_id))
+      → AreFirst may_answer client path file_id excluded → allows (AskOf (add_block_ask path client previous excluded file_id))
   pub gives_up : (located : LocatedBlock) → IsAdded may_answer client path file_id located
-      → allows (AskOf (asks.AbandonBlock located.b path client file_id))
+      → allows (AskOf (abandon_block_ask located.b path client file_id))
   pub opens : (located : LocatedBlock) (created : Bool) → IsAnsweredLocated may_answer client path file_id created located
       → (setup : Setup) → IsFirstSetup created located client setup → allows (SetupOf setup)
   pub blocks : LetsWriteBlocks allows may_answer client path file_id
@@ -240,5 +241,5 @@ pub record LetsWrite (allows : Request → Type 0) (may_answer : Ask → Answer 
 -- leave to close the file at a path, which has this id, behind none of its blocks or one that was answered
 pub record LetsClose (allows : Request → Type 0) (may_answer : Ask → Answer → Type 0) (client path : List ℕ) (file_id : Option ℕ) : Type 0 where
   pub completes : (last : Option Block) → IsAnsweredLast may_answer client path file_id last
-      → allows (AskOf (asks.Complete path client last file_id))
+      → allows (AskOf (complete_ask path client last file_id))
   pub blocks : LetsWriteBlocks allows may_answer client path file_id

@@ -11,6 +11,73 @@ use hdfs_wire::{Blob, List, NoMemory, Text, WireFault};
 use std::alloc::{AllocError, AllocFailed};
 use thiserror::Error;
 
+/// HDFS's `CreateRequestProto`: a new file at `src`, open for this client, its permission bits, its replication and the size of its
+/// blocks in bytes. `create_flag` is 1, and 3 where an older file is overwritten. Directories that aren't there are made where
+/// `create_parent` says so.
+#[derive(Drop)]
+pub struct CreateAsk {
+    pub src: Text,
+    pub masked: u32,
+    pub client_name: Text,
+    pub create_flag: u32,
+    pub create_parent: bool,
+    pub replication: u32,
+    pub block_size: u64,
+}
+
+/// HDFS's `AddBlockRequestProto`: a block more of the open file at `src`, behind its block `previous`, which has the length that it is
+/// named with; on none of `excludes`.
+#[derive(Drop)]
+pub struct AddBlockAsk {
+    pub src: Text,
+    pub client_name: Text,
+    pub previous: Option<Block>,
+    pub excludes: List<DatanodeInfo>,
+    pub file_id: Option<u64>,
+}
+
+/// HDFS's `AbandonBlockRequestProto`: the block, which is the last one of the open file at `src` and empty, is to be none of it any more.
+#[derive(Drop)]
+pub struct AbandonBlockAsk {
+    pub block: Block,
+    pub src: Text,
+    pub client_name: Text,
+    pub file_id: Option<u64>,
+}
+
+/// HDFS's `CompleteRequestProto`: the open file at `src` is to be closed. `last` is its last block, with its length.
+#[derive(Drop)]
+pub struct CompleteAsk {
+    pub src: Text,
+    pub client_name: Text,
+    pub last: Option<Block>,
+    pub file_id: Option<u64>,
+}
+
+/// HDFS's `GetAdditionalDatanodeRequestProto`: datanodes more for `blk` of the open file at `src`, behind the `existings`, which have
+/// these storages; none of `excludes`. Their number is 1.
+#[derive(Drop)]
+pub struct GetAdditionalDatanodeAsk {
+    pub src: Text,
+    pub blk: Block,
+    pub existings: List<DatanodeInfo>,
+    pub excludes: List<DatanodeInfo>,
+    pub num_additional_nodes: u32,
+    pub client_name: Text,
+    pub existing_storage_uuids: List<Text>,
+}
+
+/// HDFS's `UpdatePipelineRequestProto`: the block is written by these datanodes from now on, in these storages, and has the generation
+/// stamp with which it is named anew.
+#[derive(Drop)]
+pub struct UpdatePipelineAsk {
+    pub client_name: Text,
+    pub old_block: Block,
+    pub new_block: Block,
+    pub new_nodes: List<DatanodeId>,
+    pub storage_ids: List<Text>,
+}
+
 /// What is asked of a namenode, by the name of ClientProtocol's call.
 #[derive(Drop)]
 pub enum Ask {
@@ -22,72 +89,29 @@ pub enum Ask {
     },
     /// What is taken where a client says nothing.
     GetServerDefaults,
-    /// A new file at `src`, open for this client: its permission bits, its replication and the size of its blocks in bytes.
-    /// `create_flag` is 1, and 3 where an older file is overwritten. Directories that aren't there are made where
-    /// `create_parent` says so.
-    Create {
-        src: Text,
-        masked: u32,
-        client_name: Text,
-        create_flag: u32,
-        create_parent: bool,
-        replication: u32,
-        block_size: u64,
-    },
+    /// A new file, open for this client.
+    Create(CreateAsk),
     /// The file at `src`, open for this client. `flag` is 4.
     Append {
         src: Text,
         client_name: Text,
         flag: u32,
     },
-    /// A block more of the open file at `src`, behind its block `previous`, which has the length that it is named with; on none of
-    /// `excludes`.
-    AddBlock {
-        src: Text,
-        client_name: Text,
-        previous: Option<Block>,
-        excludes: List<DatanodeInfo>,
-        file_id: Option<u64>,
-    },
-    /// The block, which is the last one of the open file at `src` and empty, is to be none of it any more.
-    AbandonBlock {
-        block: Block,
-        src: Text,
-        client_name: Text,
-        file_id: Option<u64>,
-    },
-    /// The open file at `src` is to be closed. `last` is its last block, with its length.
-    Complete {
-        src: Text,
-        client_name: Text,
-        last: Option<Block>,
-        file_id: Option<u64>,
-    },
+    /// A block more of an open file.
+    AddBlock(AddBlockAsk),
+    /// The last block of an open file, which is empty, is to be none of it any more.
+    AbandonBlock(AbandonBlockAsk),
+    /// An open file is to be closed.
+    Complete(CompleteAsk),
     /// A generation stamp for a block that is to be gone on with by another pipeline, greater than the one that it has, and a token.
     UpdateBlockForPipeline {
         block: Block,
         client_name: Text,
     },
-    /// Datanodes more for `blk` of the open file at `src`, behind the `existings`, which have these storages; none of
-    /// `excludes`. Their number is 1.
-    GetAdditionalDatanode {
-        src: Text,
-        blk: Block,
-        existings: List<DatanodeInfo>,
-        excludes: List<DatanodeInfo>,
-        num_additional_nodes: u32,
-        client_name: Text,
-        existing_storage_uuids: List<Text>,
-    },
-    /// The block is written by these datanodes from now on, in these storages, and has the generation stamp with which it is named
-    /// anew.
-    UpdatePipeline {
-        client_name: Text,
-        old_block: Block,
-        new_block: Block,
-        new_nodes: List<DatanodeId>,
-        storage_ids: List<Text>,
-    },
+    /// Datanodes more for a block of an open file.
+    GetAdditionalDatanode(GetAdditionalDatanodeAsk),
+    /// A block is written by other datanodes from now on.
+    UpdatePipeline(UpdatePipelineAsk),
     /// What stands at `src`.
     GetFileInfo {
         src: Text,

@@ -12,7 +12,10 @@ mod messages;
 mod picture;
 mod store;
 
-pub use asks::{Answer, Ask, AskFault, LinkFault};
+pub use asks::{
+    AbandonBlockAsk, AddBlockAsk, Answer, Ask, AskFault, CompleteAsk, CreateAsk,
+    GetAdditionalDatanodeAsk, LinkFault, UpdatePipelineAsk,
+};
 pub use attributes::Attributes;
 pub use cluster::Cluster;
 pub use copies::{copy_acl_entries, copy_ids, copy_nodes, copy_optional_text, copy_texts};

@@ -4,6 +4,7 @@ ghost use Rattle.hdfs_cluster.specs.Loading.{AreValid, IsDecided, Loads, LoadsNo
 ghost use Rattle.hdfs_cluster.specs.Files.{State, only_root};
 ghost use Rattle.hdfs_cluster.specs.Picture.{Picture};
 ghost use Rattle.hdfs_cluster.specs.Stores.{Agrees};
+ghost use Rattle.hdfs_cluster.specs.declared.store.AddFault.TheVariants as add_faults;
 
 use crate::attributes::Attributes;
 use crate::cluster::Cluster;
@@ -168,6 +169,14 @@ pub enum AddFault {
     /// already, or none would be whole.
     #[error("the path isn't new, its parent is no directory, or a value is out of its limits; or there is no such replica to cut")]
     Refused,
+}
+
+impl From<NoMemory> for AddFault {
+    ghost from_gives = { λ _ e. e ≡ add_faults.NoMemory };
+
+    fn from(_: NoMemory) -> Self {
+        AddFault::NoMemory
+    }
 }
 
 /// A cluster that a script can be loaded into.

@@ -8,6 +8,7 @@ use Rattle.hdfs_cluster.specs.declared.messages.Block.{Block}
 use Rattle.hdfs_cluster.specs.declared.messages.FileStatusMsg.{FileStatusMsg}
 use Rattle.hdfs_cluster.specs.declared.messages.LocatedBlock.{LocatedBlock}
 use Rattle.hdfs_cluster.specs.declared.asks.Ask.TheVariants as asks
+use Rattle.hdfs_cluster.specs.Asks.{abandon_block_ask, add_block_ask, additional_datanode_ask, complete_ask, update_pipeline_ask}
 use Rattle.hdfs_cluster.specs.Requests.{Request, AskOf, ReadOf, SetupOf, TransferOf, AsFirst, IsAnsweredId, IsAnsweredLast, IsAnsweredLocated, IsReopened, LetsClose, LetsWriteBlocks, id_in}
 use Rattle.hdfs_rebuild.specs.declared.block_plan.BlockPlan.{BlockPlan}
 use Rattle.hdfs_model.specs.declared.commands.Command.{Command}
@@ -27,14 +28,14 @@ module _ {allows : Request → Type 0} (may_answer : Ask → Answer → Type 0) 
     gives = λ transfer given. all (TransferOf transfer);
     restamps = λ named is. all (AskOf (asks.UpdateBlockForPipeline named client));
     adds = λ named existing excluded types storages is placed many.
-        all (AskOf (asks.GetAdditionalDatanode path named existing excluded 1 client storages));
+        all (AskOf (additional_datanode_ask path named existing excluded 1 client storages));
     names = λ before now token nodes types storages is same stamped placed many.
-        all (AskOf (asks.UpdatePipeline client before now (map (λ node. node.id) nodes) storages));
+        all (AskOf (update_pipeline_ask client before now (map (λ node. node.id) nodes) storages));
   }
 
   lets_close : (client path : List ℕ) (file_id : Option ℕ) → LetsClose allows may_answer client path file_id
   lets_close client path file_id = record {
-    completes = λ last answered. all (AskOf (asks.Complete path client last file_id));
+    completes = λ last answered. all (AskOf (complete_ask path client last file_id));
     blocks = lets_blocks client path file_id;
   }
 
@@ -50,8 +51,8 @@ module _ {allows : Request → Type 0} (may_answer : Ask → Answer → Type 0) 
     closes = λ appended answered encrypted. lets_close client path (id_in appended.stat);
   }
   lets_at client path (commands.Write name bytes) = λ file_id answered. record {
-    adds = λ previous excluded answered first. all (AskOf (asks.AddBlock path client previous excluded file_id));
-    gives_up = λ located added. all (AskOf (asks.AbandonBlock located.b path client file_id));
+    adds = λ previous excluded answered first. all (AskOf (add_block_ask path client previous excluded file_id));
+    gives_up = λ located added. all (AskOf (abandon_block_ask located.b path client file_id));
     opens = λ located created answered setup first. all (SetupOf setup);
     blocks = lets_blocks client path file_id;
   }
@@ -126,7 +127,7 @@ module _ {may_answer : Ask → Answer → Type 0} (all : (ask : Ask) (answer : A
   any_located client path file_id true located = record {
     previous = None;
     excluded = [];
-    answered = all (asks.AddBlock path client None [] file_id) (answers.AddBlock located);
+    answered = all (add_block_ask path client None [] file_id) (answers.AddBlock located);
   }
   any_located client path file_id false located = any_reopened client path located
 

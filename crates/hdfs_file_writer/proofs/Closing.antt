@@ -6,7 +6,7 @@ use Rattle.hdfs_cluster.specs.declared.asks.Ask.{Ask}
 use Rattle.hdfs_cluster.specs.declared.errors.HdfsError.{HdfsError}
 use Rattle.hdfs_cluster.specs.declared.messages.LocatedBlock.{LocatedBlock}
 use Rattle.hdfs_cluster.specs.declared.asks.Answer.TheVariants as answers
-use Rattle.hdfs_cluster.specs.declared.asks.Ask.TheVariants as asks
+use Rattle.hdfs_cluster.specs.Asks.{complete_ask}
 use Rattle.hdfs_cluster.specs.declared.errors.HdfsError.TheVariants as errors
 use Rattle.hdfs_cluster.specs.declared.picture.LastAnswer.TheVariants as last_answers
 use Rattle.hdfs_cluster.specs.Failures.{CallsRose}
@@ -96,7 +96,7 @@ module _ {a b : Shown} {w : FileWriter} (between : IsBetweenBlocks w) (sound : S
 
   module _ (c : Shown) (client : List ℕ) where
     abbrev completing : Ask
-    completing = asks.Complete w.path client w.last w.file_id
+    completing = complete_ask w.path client w.last w.file_id
 
     own_asked : Leaves b c → OnlyOwnLink a None c None
     own_asked left = own_link_trans a b c None None None asking.own (own_link_left b c None left)

@@ -3,7 +3,7 @@ use Rattle.std.proofs.Common.{◌≡◌, ◌⊎◌, ⊎_elim, inl, inr, ℕ, tru
 use Rattle.std.specs.Prelude.{Contains, IsSome, Ok, Err, slice_index_or}
 use Rattle.hdfs_cluster.specs.declared.asks.Answer.TheVariants as answers
 use Rattle.hdfs_cluster.specs.declared.asks.Ask.{Ask}
-use Rattle.hdfs_cluster.specs.declared.asks.Ask.TheVariants as asks
+use Rattle.hdfs_cluster.specs.Asks.{complete_ask}
 use Rattle.hdfs_cluster.specs.declared.errors.HdfsError.{HdfsError}
 use Rattle.hdfs_cluster.specs.declared.errors.HdfsError.TheVariants as errors
 use Rattle.hdfs_cluster.specs.declared.messages.Block.{Block}
@@ -133,7 +133,7 @@ only_asked p path bytes last file q (inr closed) = closed.only
 
 module _ (risen : Type 0) (p : Picture) (path bytes : List ℕ) (last : Option Block) (file : FileEntry) (client : List ℕ) (id : Option ℕ) (q : Picture) (sound : IsSound q) where
   abbrev completing : Ask
-  completing = asks.Complete path client last id
+  completing = complete_ask path client last id
 
   -- whether it is closed or not, the namenode may be asked again
   pub complete_again : IsAsked p path bytes last file q → Repeats completing q

@@ -5,7 +5,7 @@ use Rattle.std.proofs.lemmas.List.{append_cancel_right}
 use Rattle.std.specs.Prelude.{Contains, option_map}
 use Rattle.hdfs_cluster.specs.declared.asks.Answer.{Answer}
 use Rattle.hdfs_cluster.specs.declared.asks.Answer.TheVariants as answers
-use Rattle.hdfs_cluster.specs.declared.asks.Ask.TheVariants as asks
+use Rattle.hdfs_cluster.specs.Asks.{abandon_block_ask}
 use Rattle.hdfs_cluster.specs.declared.messages.Block.{Block}
 use Rattle.hdfs_cluster.specs.declared.messages.DatanodeInfo.{DatanodeInfo}
 use Rattle.hdfs_cluster.specs.declared.messages.LocatedBlock.{LocatedBlock}
@@ -84,7 +84,7 @@ module _ (p q r : Picture) (sound : IsSound p) (path : List ℕ) (last : Option 
   empty_last = record { front = c.file.blocks; last = ends_in_it; entry = added.entry; is = listed; empty = added.fresh.empty }
 
   -- It may be given up, more than once.
-  pub may_give_up : IsSound r → (client : List ℕ) (id : Option ℕ) → Repeats (asks.AbandonBlock found.b path client id) r
+  pub may_give_up : IsSound r → (client : List ℕ) (id : Option ℕ) → Repeats (abandon_block_ask found.b path client id) r
   may_give_up sound' client id =
       give_up_repeats found.b path client id r grown grown_at c.being_written empty_last
       (λ front ends has. adding.not_twice r sound' path grown grown_at front found.b.block_id ends found.b.block_id has refl)
@@ -101,7 +101,7 @@ module _ (p q r : Picture) (sound : IsSound p) (path : List ℕ) (last : Option 
     is_grown file at = cc (at, grown_at)
 
     -- then it is gone
-    pub given_up : (client : List ℕ) (id : Option ℕ) (answer : Answer) → Row r (asks.AbandonBlock found.b path client id) answer s
+    pub given_up : (client : List ℕ) (id : Option ℕ) (answer : Answer) → Row r (abandon_block_ask found.b path client id) answer s
         → GivesUp path grown found.b r s
     given_up client id answers.AbandonBlock row =
         gone_by (subst (λ (file : FileEntry). Abandons path file found.b r s) (is_grown row.0 row.1) row.3)

@@ -5,7 +5,7 @@ use Rattle.std.specs.List.{list_any}
 use Rattle.std.specs.Prelude.{Contains, IsSome, cond, unwrap_or}
 use Rattle.std.specs.Str.{bytes_eq}
 use Rattle.hdfs_names.specs.Paths.{ancestors}
-use Rattle.hdfs_cluster.specs.declared.asks.Ask.TheVariants as asks
+use Rattle.hdfs_cluster.specs.Asks.{add_block_ask}
 use Rattle.hdfs_cluster.specs.declared.messages.Block.{Block}
 use Rattle.hdfs_cluster.specs.declared.messages.DatanodeInfo.{DatanodeInfo}
 use Rattle.hdfs_cluster.specs.declared.messages.LocatedBlock.{LocatedBlock}
@@ -67,7 +67,7 @@ last_listed p sound path (Some block) bytes c b is =
 
 -- a block behind it may be asked for again
 pub adding_repeats : (p : Picture) → IsSound p → (path : List ℕ) (last : Option Block) (bytes : List ℕ) → FileCarries p path (tail_done last) bytes
-    → (client : List ℕ) (excludes : List DatanodeInfo) (id : Option ℕ) → Repeats (asks.AddBlock path client last excludes id) p
+    → (client : List ℕ) (excludes : List DatanodeInfo) (id : Option ℕ) → Repeats (add_block_ask path client last excludes id) p
 adding_repeats p sound path last bytes c client excludes id =
     add_repeats path client last excludes id p c.file c.named c.being_written (last_of_carried p path last bytes c sound).1
     (never_retried p sound path last bytes c) (last_listed p sound path last bytes c)

@@ -3,7 +3,7 @@ use Rattle.std.proofs.Common.{◌≡◌, inl, inr, ⊎_elim, ℕ, ◌<◌, ◌�
 use Rattle.std.proofs.lemmas.Bool.{cases_lt, false≢true}
 use Rattle.std.specs.Prelude.{Ok, Err, IfSome}
 use Rattle.hdfs_cluster.specs.declared.asks.Answer.TheVariants as answers
-use Rattle.hdfs_cluster.specs.declared.asks.Ask.TheVariants as asks
+use Rattle.hdfs_cluster.specs.Asks.{add_block_ask}
 use Rattle.hdfs_cluster.specs.declared.asks.LinkFault.{LinkFault}
 use Rattle.hdfs_cluster.specs.declared.errors.HdfsError.{HdfsError}
 use Rattle.hdfs_cluster.specs.declared.errors.HdfsError.TheVariants as errors
@@ -165,7 +165,7 @@ idle_own a x w y none own = subst (λ (g : Option BlockWriter). OnlyOwnLink a (l
 
 -- a writer of a file that asks for a block
 module _ (a m : Shown) (sound : Shows IsSound a) (w : FileWriter) (between : IsBetweenBlocks w) (client : List ℕ) (excluded : List DatanodeInfo) where
-  added_wrote : (found : LocatedBlock) → found.b.num_bytes ≡ 0 → IsFull w.sizes.block_size (tail_of w) → Came a (asks.AddBlock w.path client w.last excluded w.file_id) (Ok (answers.AddBlock found)) m → Wrote a w [] m (record w { going = None; reopened = Some found })
+  added_wrote : (found : LocatedBlock) → found.b.num_bytes ≡ 0 → IsFull w.sizes.block_size (tail_of w) → Came a (add_block_ask w.path client w.last excluded w.file_id) (Ok (answers.AddBlock found)) m → Wrote a w [] m (record w { going = None; reopened = Some found })
   added_wrote found empty full came = record {
     keeps = record { path = refl; file_id = refl; sizes = refl };
     own = idle_own a m w None between.none (own_link_left a m None came.relays.leaves);
@@ -174,7 +174,7 @@ module _ (a m : Shown) (sound : Shows IsSound a) (w : FileWriter) (between : IsB
   }
 
   -- it has one more
-  pub answered_adds : (found : LocatedBlock) → IsFull w.sizes.block_size (tail_of w) → Came a (asks.AddBlock w.path client w.last excluded w.file_id) (Ok (answers.AddBlock found)) m
+  pub answered_adds : (found : LocatedBlock) → IsFull w.sizes.block_size (tail_of w) → Came a (add_block_ask w.path client w.last excluded w.file_id) (Ok (answers.AddBlock found)) m
       → Adds client excluded a w found m
   answered_adds found full came = record {
     came = came;
@@ -186,7 +186,7 @@ module _ (a m : Shown) (sound : Shows IsSound a) (w : FileWriter) (between : IsB
   }
 
   -- or there was no answer
-  pub unanswered_fails : (error : HdfsError) → Came a (asks.AddBlock w.path client w.last excluded w.file_id) (Err error) m → FailsOtherwise a w error m
+  pub unanswered_fails : (error : HdfsError) → Came a (add_block_ask w.path client w.last excluded w.file_id) (Err error) m → FailsOtherwise a w error m
   unanswered_fails error came = record {
     fails = record {
       own = idle_own a m w None between.none (own_link_left a m None came.relays.leaves);

@@ -3,7 +3,7 @@ use Rattle.std.proofs.Common.{◌≡◌, ⊎_elim, ℕ, ◌+◌, ◌≤◌, Bool
 use Rattle.std.proofs.lemmas.List.{append-nil}
 use Rattle.std.specs.Prelude.{Contains, Ok, Err, slice_index_or}
 use Rattle.hdfs_cluster.specs.declared.asks.Answer.TheVariants as answers
-use Rattle.hdfs_cluster.specs.declared.asks.Ask.TheVariants as asks
+use Rattle.hdfs_cluster.specs.Asks.{add_block_ask}
 use Rattle.hdfs_cluster.specs.declared.asks.LinkFault.{LinkFault}
 use Rattle.hdfs_cluster.specs.declared.asks.LinkFault.TheVariants as link_faults
 use Rattle.hdfs_cluster.specs.declared.errors.HdfsError.{HdfsError}
@@ -256,7 +256,7 @@ whole_behind p q sound w between bytes c size full found adds =
 module _ (a m : Shown) (sound : Shows IsSound a) (writer : FileWriter) (between : IsBetweenBlocks writer) (client : List ℕ)
     (excluded : List DatanodeInfo) where
   -- a block was answered, which is to be written
-  pub added_carries : (found : LocatedBlock) → found.b.num_bytes ≡ 0 → IsFull writer.sizes.block_size (tail_of writer) → Came a (asks.AddBlock writer.path client writer.last excluded writer.file_id) (Ok (answers.AddBlock found)) m → CarriesMore a writer [] m (record writer { going = None; reopened = Some found })
+  pub added_carries : (found : LocatedBlock) → found.b.num_bytes ≡ 0 → IsFull writer.sizes.block_size (tail_of writer) → Came a (add_block_ask writer.path client writer.last excluded writer.file_id) (Ok (answers.AddBlock found)) m → CarriesMore a writer [] m (record writer { going = None; reopened = Some found })
   added_carries found empty full came p bytes told c =
       let c' = as_done writer between p writer.path bytes c in
       let one = came.told p told (adding_repeats p (sound p told) writer.path writer.last bytes c' client excluded writer.file_id) in
@@ -278,7 +278,7 @@ module _ (a m : Shown) (sound : Shows IsSound a) (writer : FileWriter) (between 
       )
 
   -- no block was answered
-  pub unanswered_touches : (error : HdfsError) → Came a (asks.AddBlock writer.path client writer.last excluded writer.file_id) (Err error) m → TouchesFile a writer m
+  pub unanswered_touches : (error : HdfsError) → Came a (add_block_ask writer.path client writer.last excluded writer.file_id) (Err error) m → TouchesFile a writer m
   unanswered_touches error came p bytes told c =
       let c' = as_done writer between p writer.path bytes c in
       let one = came.told p told (adding_repeats p (sound p told) writer.path writer.last bytes c' client excluded writer.file_id) in (
@@ -290,7 +290,7 @@ module _ (a m : Shown) (sound : Shows IsSound a) (writer : FileWriter) (between 
       )
 
   -- but for want of memory, only where a namenode has failed
-  pub unanswered_rose : (error : HdfsError) → (error ≡ errors.NoMemory → ⊥) → Came a (asks.AddBlock writer.path client writer.last excluded writer.file_id) (Err error) m
+  pub unanswered_rose : (error : HdfsError) → (error ≡ errors.NoMemory → ⊥) → Came a (add_block_ask writer.path client writer.last excluded writer.file_id) (Err error) m
       → (p : Picture) (bytes : List ℕ) → a.picture ≡ Some p → FileCarries p writer.path (tail_of writer) bytes → CallsRose a.counts m
   unanswered_rose error some came p bytes told c =
       let c' = as_done writer between p writer.path bytes c in

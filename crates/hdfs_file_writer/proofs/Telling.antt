@@ -27,7 +27,7 @@ use Rattle.hdfs_file_writer.specs.Faults.{error_of}
 use Rattle.std.specs.Prelude.{Ok, Err}
 use Rattle.hdfs_cluster.specs.declared.asks.Answer.TheVariants as answers
 use Rattle.hdfs_cluster.specs.declared.asks.Ask.{Ask}
-use Rattle.hdfs_cluster.specs.declared.asks.Ask.TheVariants as asks
+use Rattle.hdfs_cluster.specs.Asks.{add_block_ask, complete_ask}
 use Rattle.hdfs_cluster.specs.declared.messages.Block.{Block}
 use Rattle.hdfs_cluster.specs.declared.messages.DatanodeInfo.{DatanodeInfo}
 use Rattle.hdfs_cluster.specs.declared.messages.LocatedBlock.{LocatedBlock}
@@ -145,7 +145,7 @@ same_file_at p path a b one two = cc (one, two)
 
 module _ (risen : Type 0) (src client : List ℕ) (previous : Option Block) (excludes : List DatanodeInfo) (id : Option ℕ) (p : Picture) (file : FileEntry) (is : IsFileAt p src file) (q : Picture) where
   abbrev adding : Ask
-  adding = asks.AddBlock src client previous excludes id
+  adding = add_block_ask src client previous excludes id
 
   adds_by : (found : LocatedBlock) → Row p adding (answers.AddBlock found) q → AddsBlock src file previous excludes found p q
   adds_by found row = subst (λ (f : FileEntry). AddsBlock src f previous excludes found p q) (same_file_at p src row.0 file row.1 is) row.2
@@ -169,7 +169,7 @@ module _ (risen : Type 0) (src client : List ℕ) (previous : Option Block) (exc
 
 module _ (risen : Type 0) (src client : List ℕ) (last : Option Block) (id : Option ℕ) (p : Picture) (file : FileEntry) (is : IsFileAt p src file) (q : Picture) where
   abbrev completing : Ask
-  completing = asks.Complete src client last id
+  completing = complete_ask src client last id
 
   completes_by : Row p completing (answers.Complete true) q → Completes src file last p q
   completes_by row = subst (λ (f : FileEntry). Completes src f last p q) (same_file_at p src row.0 file row.1 is) row.2

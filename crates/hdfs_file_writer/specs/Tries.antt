@@ -3,7 +3,7 @@ use Rattle.std.specs.Prelude.{◌≡◌, ◌⊎◌, ℕ, ◌+◌, ◌-◌, ◌�
 use Rattle.hdfs_cluster.specs.declared.asks.Answer.{Answer}
 use Rattle.hdfs_cluster.specs.declared.asks.Answer.TheVariants as answers
 use Rattle.hdfs_cluster.specs.declared.asks.Ask.{Ask}
-use Rattle.hdfs_cluster.specs.declared.asks.Ask.TheVariants as asks
+use Rattle.hdfs_cluster.specs.Asks.{abandon_block_ask}
 use Rattle.hdfs_cluster.specs.declared.errors.HdfsError.{HdfsError}
 use Rattle.hdfs_cluster.specs.declared.errors.HdfsError.TheVariants as errors
 use Rattle.hdfs_cluster.specs.declared.messages.Block.{Block}
@@ -51,7 +51,7 @@ pub record TriesOn (may_answer : Ask → Answer → Type 0) (client : List ℕ) 
 
 -- the ask to give up a block of a writer's file
 abbrev pub giving_up : List ℕ → FileWriter → Block → Ask
-giving_up client writer block = asks.AbandonBlock block writer.path client writer.file_id
+giving_up client writer block = abandon_block_ask block writer.path client writer.file_id
 
 -- The block of a try was given up, whose first pipeline couldn't be set up, and another try may follow.
 pub record LeavesCandidate (client : List ℕ) (writer : FileWriter) (tries : Tries) (candidate : Candidate) (fault : WriteFault) (old : Shown)

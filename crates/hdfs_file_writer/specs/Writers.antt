@@ -4,7 +4,7 @@ use Rattle.hdfs_wire.specs.Outgoing.{ArePacketSizes}
 use Rattle.hdfs_cluster.specs.declared.asks.Answer.{Answer}
 use Rattle.hdfs_cluster.specs.declared.asks.Answer.TheVariants as answers
 use Rattle.hdfs_cluster.specs.declared.asks.Ask.{Ask}
-use Rattle.hdfs_cluster.specs.declared.asks.Ask.TheVariants as asks
+use Rattle.hdfs_cluster.specs.Asks.{add_block_ask}
 use Rattle.hdfs_cluster.specs.declared.messages.Block.{Block}
 use Rattle.hdfs_cluster.specs.declared.messages.DatanodeInfo.{DatanodeInfo}
 use Rattle.hdfs_cluster.specs.declared.messages.LocatedBlock.{LocatedBlock}
@@ -324,7 +324,7 @@ pub record FailsOtherwise (old : Shown) (writer : FileWriter) (error : HdfsError
 -- written. No datanode has failed.
 pub record Adds (client : List ℕ) (excluded : List DatanodeInfo) (old : Shown) (writer : FileWriter) (located : LocatedBlock) (new : Shown)
     : Type 0 where
-  pub came : Came old (asks.AddBlock writer.path client writer.last excluded writer.file_id) (Ok (answers.AddBlock located)) new
+  pub came : Came old (add_block_ask writer.path client writer.last excluded writer.file_id) (Ok (answers.AddBlock located)) new
   pub block : IsToWrite located
   pub empty : located.b.num_bytes ≡ 0
   pub nodes : SameNodes old new

@@ -7,10 +7,11 @@ use Rattle.std.specs.List.{list_any}
 use Rattle.std.specs.Str.{bytes_eq}
 use Rattle.hdfs_cluster.specs.declared.asks.Ask.{Ask}
 use Rattle.hdfs_cluster.specs.declared.asks.Ask.TheVariants as asks
+use Rattle.hdfs_cluster.specs.declared.asks.AddBlockAsk.{AddBlockAsk}
+use Rattle.hdfs_cluster.specs.declared.asks.GetAdditionalDatanodeAsk.{GetAdditionalDatanodeAsk}
 use Rattle.hdfs_cluster.specs.declared.asks.Answer.{Answer}
 use Rattle.hdfs_cluster.specs.declared.asks.AskFault.{AskFault}
 use Rattle.hdfs_cluster.specs.declared.asks.AskFault.TheVariants as faults
-use Rattle.hdfs_cluster.specs.declared.messages.Block.{Block}
 use Rattle.hdfs_cluster.specs.declared.messages.DatanodeInfo.{DatanodeInfo}
 use Rattle.hdfs_cluster.specs.declared.mem_settings.MemSettings.{MemSettings}
 use Rattle.hdfs_cluster.specs.declared.store.AskKind.{AskKind}
@@ -65,7 +66,7 @@ class_for_any kind refusal class h = by_why h.0 h.2
 
 class_for_refusal : (p : Picture) (ask : Ask) (class : List ℕ) → IsRefusal p ask class → bytes_eq class io_exception ≡ false
 class_for_refusal p (asks.GetBlockLocations src offset length) class h = same_class class (class_for h.0) h.2 (class_for_no_file h.0)
-class_for_refusal p (asks.Create src masked client flag parents replication block_size) class h = class_for_any _ _ class h
+class_for_refusal p (asks.Create ask) class h = class_for_any _ _ class h
 class_for_refusal p (asks.Append src client flag) class h = class_for_any _ _ class h
 class_for_refusal p (asks.GetFileInfo src) class h = class_for_any _ _ class h
 class_for_refusal p (asks.GetListing src from located) class h = ⊎_elim (class_for_any _ _ class) (λ bad. same_class class _ bad.1 refl) h
@@ -115,19 +116,19 @@ module _ (loaded : List Line) (count : ℕ) (p q : Picture) (i : ℕ) (ask : Ask
   fails_if failed = ⊎_elim (λ answers. absurd (false≢true (sym (answers_fine p q i ask result answers) ∙ failed))) (λ more. ⊎_elim (λ fails. fails) (λ about. absurd (false≢true (sym (about_fine p q i ask result about) ∙ failed))) more) responds
 
 -- each datanode is existing or excluded
-pub lacks_datanode : (p : Picture) (src text : List ℕ) → text ≡ src → (block : Block) (client : List ℕ) (existing excludes : List DatanodeInfo) (number : ℕ) (ids : List (List ℕ)) (count : ℕ) (olds outs : List DatanodeInfo) → olds ≡ existing → outs ≡ excludes
-    → IsOfOpen p.names text block.block_id → AreBarred (is_barred olds outs) count → LacksDatanode count p (asks.GetAdditionalDatanode src block existing excludes number client ids)
-lacks_datanode p src text is_text block client existing excludes number ids count olds outs is_olds is_outs of_file barred =
-    let h = subst (λ (t : List ℕ). IsOfOpen p.names t block.block_id) is_text of_file in (
+pub lacks_datanode : (p : Picture) (ask : GetAdditionalDatanodeAsk) (text : List ℕ) → text ≡ ask.src → (count : ℕ) (olds outs : List DatanodeInfo) → olds ≡ ask.existings → outs ≡ ask.excludes
+    → IsOfOpen p.names text ask.blk.block_id → AreBarred (is_barred olds outs) count → LacksDatanode count p (asks.GetAdditionalDatanode ask)
+lacks_datanode p ask text is_text count olds outs is_olds is_outs of_file barred =
+    let h = subst (λ (t : List ℕ). IsOfOpen p.names t ask.blk.block_id) is_text of_file in (
       record { file = h.file; named = h.is; is_open = h.is_open; has = h.has },
-      subst (λ (l : List DatanodeInfo). AreBarred (is_barred existing l) count) is_outs (subst (λ (l : List DatanodeInfo). AreBarred (is_barred l outs) count) is_olds barred),
+      subst (λ (l : List DatanodeInfo). AreBarred (is_barred ask.existings l) count) is_outs (subst (λ (l : List DatanodeInfo). AreBarred (is_barred l outs) count) is_olds barred),
     )
 
 -- each is excluded, for a block more
-pub lacks_place : (p : Picture) (src text : List ℕ) → text ≡ src → (client : List ℕ) (previous : Option Block) (excludes : List DatanodeInfo) (file_id : Option ℕ) (count : ℕ) (outs : List DatanodeInfo) → outs ≡ excludes
-    → LacksPlace (space_in p) count text previous outs → LacksDatanode count p (asks.AddBlock src client previous excludes file_id)
-lacks_place p src text is_text client previous excludes file_id count outs is_outs lacks =
-    subst (λ (l : List DatanodeInfo). LacksPlace (space_in p) count src previous l) is_outs (subst (λ (t : List ℕ). LacksPlace (space_in p) count t previous outs) is_text lacks)
+pub lacks_place : (p : Picture) (ask : AddBlockAsk) (text : List ℕ) → text ≡ ask.src → (count : ℕ) (outs : List DatanodeInfo) → outs ≡ ask.excludes
+    → LacksPlace (space_in p) count text ask.previous outs → LacksDatanode count p (asks.AddBlock ask)
+lacks_place p ask text is_text count outs is_outs lacks =
+    subst (λ (l : List DatanodeInfo). LacksPlace (space_in p) count ask.src ask.previous l) is_outs (subst (λ (t : List ℕ). LacksPlace (space_in p) count t ask.previous outs) is_text lacks)
 
 -- what is answered then
 pub responds_none : (loaded : List Line) (count : ℕ) (p q : Picture) (i : ℕ) (ask : Ask) → SamePicture p q → i ≡ p.active → LacksDatanode count p ask → (fault : AskFault) → StandsForNone loaded fault → Responds loaded count p i ask (Err fault) q

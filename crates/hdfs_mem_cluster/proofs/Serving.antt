@@ -61,7 +61,7 @@ comes_to_nothing loaded count (Some kind) p q i ask same = inl (refl, same)
 pub planned_shaped : (kind : AskKind) (ask : Ask) → IfOk (planned_answer kind ask) (IsShaped ask)
 planned_shaped ask_kinds.Lost ask = tt
 planned_shaped ask_kinds.Late ask = tt
-planned_shaped ask_kinds.FalseAnswer (asks.Complete src client last file_id) = tt
+planned_shaped ask_kinds.FalseAnswer (asks.Complete ask) = tt
 planned_shaped ask_kinds.FalseAnswer ask = tt
 planned_shaped ask_kinds.Fatal ask = tt
 planned_shaped (ask_kinds.Exception class) ask = tt
@@ -80,7 +80,7 @@ both_ok (Err e) P R f p q = tt
 
 -- no row answers that a file isn't closed
 no_false : (p : Picture) (ask : Ask) (q : Picture) → Row p ask (answers.Complete false) q → ⊥
-no_false p (asks.Complete src client last file_id) q row = row
+no_false p (asks.Complete ask) q row = row
 no_false p ask q row = row
 
 module _ (loaded : List Line) (count : ℕ) (p q : Picture) (i : ℕ) (ask : Ask) where
@@ -117,7 +117,7 @@ module _ (loaded : List Line) (count : ℕ) (p q : Picture) (i : ℕ) (ask : Ask
     serves_planned ask_kinds.FalseAnswer rose does = by_ask ask (inl does.rest)
       where
         by_ask : (a : Ask) → MayBeDone a p q → ServesTold risen p i a (false_answer a) q
-        by_ask (asks.Complete src client last file_id) done = inr (refl, rose, done)
+        by_ask (asks.Complete ask) done = inr (refl, rose, done)
         by_ask ask done = (rose, done)
     serves_planned ask_kinds.Fatal rose does = (rose, inl does.rest)
     serves_planned (ask_kinds.Exception class) rose does = inr (inr (inr (rose, inl does.rest)))
@@ -143,7 +143,7 @@ module _ (loaded : List Line) (count : ℕ) (p q : Picture) (i : ℕ) (ask : Ask
         planned_answered : (kind : AskKind) (a : Ask) → has_failed (Some kind) (planned_answer kind a) ≡ true
         planned_answered ask_kinds.Lost a = refl
         planned_answered ask_kinds.Late a = refl
-        planned_answered ask_kinds.FalseAnswer (asks.Complete src client last file_id) = refl
+        planned_answered ask_kinds.FalseAnswer (asks.Complete ask) = refl
         planned_answered ask_kinds.FalseAnswer ask = refl
         planned_answered ask_kinds.Fatal a = refl
         planned_answered (ask_kinds.Exception class) a = refl

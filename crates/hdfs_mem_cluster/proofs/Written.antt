@@ -2,6 +2,10 @@
 use Rattle.std.proofs.Common.{◌≡◌, ◌⊎◌, ⊎_elim, inl, inr, ℕ, ◌<◌, ◌≤◌, min, Bool, true, false, cond, List, [], length, Option, Some, None, Ok, Err, refl, sym, ap, subst, arith}
 use Rattle.std.specs.BTreeMap.{get_by_text}
 use Rattle.hdfs_cluster.specs.declared.asks.Ask.TheVariants as asks
+use Rattle.hdfs_cluster.specs.declared.asks.AbandonBlockAsk.{AbandonBlockAsk}
+use Rattle.hdfs_cluster.specs.declared.asks.AddBlockAsk.{AddBlockAsk}
+use Rattle.hdfs_cluster.specs.declared.asks.CompleteAsk.{CompleteAsk}
+use Rattle.hdfs_cluster.specs.declared.asks.CreateAsk.{CreateAsk}
 use Rattle.hdfs_cluster.specs.declared.asks.Answer.TheVariants as answers
 use Rattle.hdfs_cluster.specs.declared.asks.AskFault.{AskFault}
 use Rattle.hdfs_cluster.specs.declared.asks.AskFault.TheVariants as faults
@@ -90,87 +94,87 @@ module _ (space space' : Namespace) (nodes : Datanodes) (settings : MemSettings)
   takes_last src file block (inl taken) = inl (record { gone = taken.gone; changes = changes_space _ _ taken.shorter taken.listed })
   takes_last src file block (inr kept) = inr (kept.0, changes_space _ _ kept.1 kept.2)
 
-  module _ (i : ℕ) (here : i ≡ settings.active) (text src : List ℕ) (is : text ≡ src) where
-    pub answers_created : (masked : ℕ) (client : List ℕ) (flag : ℕ) (parents : Bool) (replication block_size : ℕ) (status : FileStatusMsg)
-        → HasStatus (new_file masked replication block_size) (Some status) → create_refusal (kinds_in (get_by_text space.names)) text (overwrites flag) parents ≡ None
-        → ((path : List ℕ) → get_by_text space'.names path ≡ with_parents (get_by_text space.names) entries.Dir text (entries.File (new_file masked replication block_size)) path)
+  module _ (i : ℕ) (here : i ≡ settings.active) (text : List ℕ) where
+    pub answers_created : (ask : CreateAsk) → text ≡ ask.src → (status : FileStatusMsg)
+        → HasStatus (new_file ask.masked ask.replication ask.block_size) (Some status) → create_refusal (kinds_in (get_by_text space.names)) text (overwrites ask.create_flag) ask.create_parent ≡ None
+        → ((path : List ℕ) → get_by_text space'.names path ≡ with_parents (get_by_text space.names) entries.Dir text (entries.File (new_file ask.masked ask.replication ask.block_size)) path)
         → ((id : ℕ) → table_of space'.table.entries id ≡ table_without (table_of space.table.entries) (blocks_at (get_by_text space.names text)) id)
-        → Answers p i (asks.Create src masked client flag parents replication block_size) (Ok (answers.Create (Some status))) q
-    answers_created masked client flag parents replication block_size status told allowed names table =
-        subst (λ (s : List ℕ). Answers p i (asks.Create s masked client flag parents replication block_size) (Ok (answers.Create (Some status))) q) is
+        → Answers p i (asks.Create ask) (Ok (answers.Create (Some status))) q
+    answers_created ask is status told allowed names table =
+        subst (λ (s : List ℕ). Answers p i (asks.Create (record ask { src = s })) (Ok (answers.Create (Some status))) q) is
         (here, refl, tt, (allowed, told, record { none = refl; is_open = refl; changes = changes_space _ _ names table }))
 
-    pub answers_not_created : (masked : ℕ) (client : List ℕ) (flag : ℕ) (parents : Bool) (replication block_size : ℕ) (fault : AskFault)
-        → StandsForWritten (kinds_in (get_by_text space.names) text) (create_refusal (kinds_in (get_by_text space.names)) text (overwrites flag) parents) fault → SameSpace space space'
-        → Answers p i (asks.Create src masked client flag parents replication block_size) (Err fault) q
-    answers_not_created masked client flag parents replication block_size faults.NoMemory excused same = same_space same
-    answers_not_created masked client flag parents replication block_size (faults.Exception class message) excused same =
-        subst (λ (s : List ℕ). Answers p i (asks.Create s masked client flag parents replication block_size) (Err (faults.Exception class message)) q) is
+    pub answers_not_created : (ask : CreateAsk) → text ≡ ask.src → (fault : AskFault)
+        → StandsForWritten (kinds_in (get_by_text space.names) text) (create_refusal (kinds_in (get_by_text space.names)) text (overwrites ask.create_flag) ask.create_parent) fault → SameSpace space space'
+        → Answers p i (asks.Create ask) (Err fault) q
+    answers_not_created ask is faults.NoMemory excused same = same_space same
+    answers_not_created ask is (faults.Exception class message) excused same =
+        subst (λ (s : List ℕ). Answers p i (asks.Create (record ask { src = s })) (Err (faults.Exception class message)) q) is
         (excused.1, same_space same, inr (here, inl excused.0))
-    answers_not_created masked client flag parents replication block_size faults.Broken excused same = absurd excused
-    answers_not_created masked client flag parents replication block_size (faults.BadReply fault) excused same = absurd excused
-    answers_not_created masked client flag parents replication block_size (faults.Fatal class message) excused same = absurd excused
+    answers_not_created ask is faults.Broken excused same = absurd excused
+    answers_not_created ask is (faults.BadReply fault) excused same = absurd excused
+    answers_not_created ask is (faults.Fatal class message) excused same = absurd excused
 
     closes_if : (b : Bool) (file : FileEntry) (last : Option Block) → ((path : List ℕ) → get_by_text space'.names path ≡ cond b (with_entry (get_by_text space.names) text (with_open file false) path) (get_by_text space.names path))
         → ((id : ℕ) → table_of space'.table.entries id ≡ cond b (with_length (table_of space.table.entries) last id) (table_of space.table.entries id)) → ClosesIf b text file last p q
     closes_if true file last names table = changes_space _ _ names table
     closes_if false file last names table = changes_space _ _ names table
 
-    pub answers_completed : (client : List ℕ) (last : Option Block) (file_id : Option ℕ) → (file : FileEntry) × (get_by_text space.names text ≡ Some (entries.File file)) × IsLast file.blocks last
+    pub answers_completed : (ask : CompleteAsk) → text ≡ ask.src → (file : FileEntry) × (get_by_text space.names text ≡ Some (entries.File file)) × IsLast file.blocks ask.last
         × ((path : List ℕ) → get_by_text space'.names path ≡ cond file.is_open (with_entry (get_by_text space.names) text (with_open file false) path) (get_by_text space.names path))
-        × ((id : ℕ) → table_of space'.table.entries id ≡ cond file.is_open (with_length (table_of space.table.entries) last id) (table_of space.table.entries id))
-        → Answers p i (asks.Complete src client last file_id) (Ok (answers.Complete true)) q
-    answers_completed client last file_id done =
-        subst (λ (s : List ℕ). Answers p i (asks.Complete s client last file_id) (Ok (answers.Complete true)) q) is
-        (here, refl, tt, (done.0, done.1, (done.2, closes_if done.0.is_open done.0 last done.3 done.4)))
+        × ((id : ℕ) → table_of space'.table.entries id ≡ cond file.is_open (with_length (table_of space.table.entries) ask.last id) (table_of space.table.entries id))
+        → Answers p i (asks.Complete ask) (Ok (answers.Complete true)) q
+    answers_completed ask is done =
+        subst (λ (s : List ℕ). Answers p i (asks.Complete (record ask { src = s })) (Ok (answers.Complete true)) q) is
+        (here, refl, tt, (done.0, done.1, (done.2, closes_if done.0.is_open done.0 ask.last done.3 done.4)))
 
-    pub answers_not_completed : (client : List ℕ) (last : Option Block) (file_id : Option ℕ) (fault : AskFault)
-        → StandsForStray ((file : FileEntry) → get_by_text space.names text ≡ Some (entries.File file) → IsLast file.blocks last → ⊥) fault → SameSpace space space'
-        → Answers p i (asks.Complete src client last file_id) (Err fault) q
-    answers_not_completed client last file_id faults.NoMemory stray same = same_space same
-    answers_not_completed client last file_id (faults.Exception class message) stray same =
-        subst (λ (s : List ℕ). Answers p i (asks.Complete s client last file_id) (Err (faults.Exception class message)) q) is
+    pub answers_not_completed : (ask : CompleteAsk) → text ≡ ask.src → (fault : AskFault)
+        → StandsForStray ((file : FileEntry) → get_by_text space.names text ≡ Some (entries.File file) → IsLast file.blocks ask.last → ⊥) fault → SameSpace space space'
+        → Answers p i (asks.Complete ask) (Err fault) q
+    answers_not_completed ask is faults.NoMemory stray same = same_space same
+    answers_not_completed ask is (faults.Exception class message) stray same =
+        subst (λ (s : List ℕ). Answers p i (asks.Complete (record ask { src = s })) (Err (faults.Exception class message)) q) is
         (stray.2, same_space same, inr (here, inr (inl (stray.0, stray.1))))
-    answers_not_completed client last file_id faults.Broken stray same = absurd stray
-    answers_not_completed client last file_id (faults.BadReply fault) stray same = absurd stray
-    answers_not_completed client last file_id (faults.Fatal class message) stray same = absurd stray
+    answers_not_completed ask is faults.Broken stray same = absurd stray
+    answers_not_completed ask is (faults.BadReply fault) stray same = absurd stray
+    answers_not_completed ask is (faults.Fatal class message) stray same = absurd stray
 
-    pub answers_added : (client : List ℕ) (previous : Option Block) (excludes outs : List DatanodeInfo) → outs ≡ excludes → (file_id : Option ℕ) (block : LocatedBlock) → (file : FileEntry) × (get_by_text space.names text ≡ Some (entries.File file))
-        × (GivesLast (space_of space nodes) file previous (space_of space' nodes) block
-        ⊎ AddsLast (space_of space nodes) nodes.count text file previous outs (space_of space' nodes) block)
-        → Answers p i (asks.AddBlock src client previous excludes file_id) (Ok (answers.AddBlock block)) q
-    answers_added client previous excludes outs is_outs file_id block done =
-        subst (λ (l : List DatanodeInfo). Answers p i (asks.AddBlock src client previous l file_id) (Ok (answers.AddBlock block)) q) is_outs
-        (subst (λ (s : List ℕ). Answers p i (asks.AddBlock s client previous outs file_id) (Ok (answers.AddBlock block)) q) is
-        (here, refl, tt, (done.0, done.1, ⊎_elim (λ again. inl (gives_last text done.0 previous block again)) (λ new. inr (adds_last text done.0 previous outs block done.1 new)) done.2)))
+    pub answers_added : (ask : AddBlockAsk) → text ≡ ask.src → (outs : List DatanodeInfo) → outs ≡ ask.excludes → (block : LocatedBlock) → (file : FileEntry) × (get_by_text space.names text ≡ Some (entries.File file))
+        × (GivesLast (space_of space nodes) file ask.previous (space_of space' nodes) block
+        ⊎ AddsLast (space_of space nodes) nodes.count text file ask.previous outs (space_of space' nodes) block)
+        → Answers p i (asks.AddBlock ask) (Ok (answers.AddBlock block)) q
+    answers_added ask is outs is_outs block done =
+        subst (λ (l : List DatanodeInfo). Answers p i (asks.AddBlock (record ask { excludes = l })) (Ok (answers.AddBlock block)) q) is_outs
+        (subst (λ (s : List ℕ). Answers p i (asks.AddBlock (record ask { src = s; excludes = outs })) (Ok (answers.AddBlock block)) q) is
+        (here, refl, tt, (done.0, done.1, ⊎_elim (λ again. inl (gives_last text done.0 ask.previous block again)) (λ new. inr (adds_last text done.0 ask.previous outs block done.1 new)) done.2)))
 
-    pub answers_not_added : (client : List ℕ) (previous : Option Block) (excludes : List DatanodeInfo) (file_id : Option ℕ) (fault : AskFault)
-        → StandsForStray ((file : FileEntry) → get_by_text space.names text ≡ Some (entries.File file) → file.is_open ≡ true → HasBlock file.blocks previous → ⊥) fault
+    pub answers_not_added : (ask : AddBlockAsk) → text ≡ ask.src → (fault : AskFault)
+        → StandsForStray ((file : FileEntry) → get_by_text space.names text ≡ Some (entries.File file) → file.is_open ≡ true → HasBlock file.blocks ask.previous → ⊥) fault
         → ((path : List ℕ) → get_by_text space'.names path ≡ get_by_text space.names path) × ((id : ℕ) → table_of space'.table.entries id ≡ table_of space.table.entries id)
-        → Answers p i (asks.AddBlock src client previous excludes file_id) (Err fault) q
-    answers_not_added client previous excludes file_id faults.NoMemory stray same = same_looks same
-    answers_not_added client previous excludes file_id (faults.Exception class message) stray same =
-        subst (λ (s : List ℕ). Answers p i (asks.AddBlock s client previous excludes file_id) (Err (faults.Exception class message)) q) is
+        → Answers p i (asks.AddBlock ask) (Err fault) q
+    answers_not_added ask is faults.NoMemory stray same = same_looks same
+    answers_not_added ask is (faults.Exception class message) stray same =
+        subst (λ (s : List ℕ). Answers p i (asks.AddBlock (record ask { src = s })) (Err (faults.Exception class message)) q) is
         (stray.2, same_looks same, inr (here, inr (inl (stray.0, stray.1))))
-    answers_not_added client previous excludes file_id faults.Broken stray same = absurd stray
-    answers_not_added client previous excludes file_id (faults.BadReply fault) stray same = absurd stray
-    answers_not_added client previous excludes file_id (faults.Fatal class message) stray same = absurd stray
+    answers_not_added ask is faults.Broken stray same = absurd stray
+    answers_not_added ask is (faults.BadReply fault) stray same = absurd stray
+    answers_not_added ask is (faults.Fatal class message) stray same = absurd stray
 
-    pub answers_abandoned : (block : Block) (client : List ℕ) (file_id : Option ℕ) → (file : FileEntry) × (get_by_text space.names text ≡ Some (entries.File file)) × (file.is_open ≡ true)
-        × TakesOrNot (get_by_text space.names) (table_of space.table.entries) text file block (get_by_text space'.names) (table_of space'.table.entries)
-        → Answers p i (asks.AbandonBlock block src client file_id) (Ok answers.AbandonBlock) q
-    answers_abandoned block client file_id done =
-        subst (λ (s : List ℕ). Answers p i (asks.AbandonBlock block s client file_id) (Ok answers.AbandonBlock) q) is
-        (here, refl, tt, (done.0, done.1, done.2, takes_last text done.0 block done.3))
+    pub answers_abandoned : (ask : AbandonBlockAsk) → text ≡ ask.src → (file : FileEntry) × (get_by_text space.names text ≡ Some (entries.File file)) × (file.is_open ≡ true)
+        × TakesOrNot (get_by_text space.names) (table_of space.table.entries) text file ask.block (get_by_text space'.names) (table_of space'.table.entries)
+        → Answers p i (asks.AbandonBlock ask) (Ok answers.AbandonBlock) q
+    answers_abandoned ask is done =
+        subst (λ (s : List ℕ). Answers p i (asks.AbandonBlock (record ask { src = s })) (Ok answers.AbandonBlock) q) is
+        (here, refl, tt, (done.0, done.1, done.2, takes_last text done.0 ask.block done.3))
 
-    pub answers_not_abandoned : (block : Block) (client : List ℕ) (file_id : Option ℕ) (fault : AskFault)
-        → StandsForStray ((file : FileEntry) → get_by_text space.names text ≡ Some (entries.File file) → file.is_open ≡ true → MayBeGivenUp (table_of space.table.entries) file block → ⊥) fault
+    pub answers_not_abandoned : (ask : AbandonBlockAsk) → text ≡ ask.src → (fault : AskFault)
+        → StandsForStray ((file : FileEntry) → get_by_text space.names text ≡ Some (entries.File file) → file.is_open ≡ true → MayBeGivenUp (table_of space.table.entries) file ask.block → ⊥) fault
         → (space'.names ≡ space.names) × (space'.table ≡ space.table)
-        → Answers p i (asks.AbandonBlock block src client file_id) (Err fault) q
-    answers_not_abandoned block client file_id faults.NoMemory stray same = same_parts same
-    answers_not_abandoned block client file_id (faults.Exception class message) stray same =
-        subst (λ (s : List ℕ). Answers p i (asks.AbandonBlock block s client file_id) (Err (faults.Exception class message)) q) is
+        → Answers p i (asks.AbandonBlock ask) (Err fault) q
+    answers_not_abandoned ask is faults.NoMemory stray same = same_parts same
+    answers_not_abandoned ask is (faults.Exception class message) stray same =
+        subst (λ (s : List ℕ). Answers p i (asks.AbandonBlock (record ask { src = s })) (Err (faults.Exception class message)) q) is
         (stray.2, same_parts same, inr (here, inr (inl (stray.0, stray.1))))
-    answers_not_abandoned block client file_id faults.Broken stray same = absurd stray
-    answers_not_abandoned block client file_id (faults.BadReply fault) stray same = absurd stray
-    answers_not_abandoned block client file_id (faults.Fatal class message) stray same = absurd stray
+    answers_not_abandoned ask is faults.Broken stray same = absurd stray
+    answers_not_abandoned ask is (faults.BadReply fault) stray same = absurd stray
+    answers_not_abandoned ask is (faults.Fatal class message) stray same = absurd stray

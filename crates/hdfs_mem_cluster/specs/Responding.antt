@@ -24,43 +24,18 @@ use Rattle.hdfs_mem_namenode.specs.Answering.{Answers, AnswersAbout, no_such_met
 use Rattle.hdfs_mem_namenode.specs.Pipelines.{AreBarred, LacksPlace, is_barred}
 use Rattle.hdfs_mem_cluster.specs.MemShown.{picture_at}
 
--- a new file is asked for
-abbrev pub IsCreate : Ask → Type 0
-IsCreate (asks.Create src masked client flag parents replication block_size) = Unit {0}
-IsCreate ask = ⊥
-
--- a block more is asked for
-abbrev pub IsAddBlock : Ask → Type 0
-IsAddBlock (asks.AddBlock src client previous excludes file_id) = Unit {0}
-IsAddBlock ask = ⊥
-
--- a block is to be given up
-abbrev pub IsAbandonBlock : Ask → Type 0
-IsAbandonBlock (asks.AbandonBlock block src client file_id) = Unit {0}
-IsAbandonBlock ask = ⊥
-
--- a datanode more is asked for
-abbrev pub IsGetAdditionalDatanode : Ask → Type 0
-IsGetAdditionalDatanode (asks.GetAdditionalDatanode src block existing excludes count client ids) = Unit {0}
-IsGetAdditionalDatanode ask = ⊥
-
--- a block is given another pipeline
-abbrev pub IsUpdatePipeline : Ask → Type 0
-IsUpdatePipeline (asks.UpdatePipeline client block block' nodes ids) = Unit {0}
-IsUpdatePipeline ask = ⊥
-
 -- a command of a session makes the ask
 abbrev pub is_of_session : Ask → Bool
 is_of_session (asks.GetBlockLocations src offset length) = true
 is_of_session asks.GetServerDefaults = true
-is_of_session (asks.Create src masked client flag parents replication block_size) = true
+is_of_session (asks.Create ask) = true
 is_of_session (asks.Append src client flag) = true
-is_of_session (asks.AddBlock src client previous excludes file_id) = true
-is_of_session (asks.AbandonBlock block src client file_id) = true
-is_of_session (asks.Complete src client last file_id) = true
+is_of_session (asks.AddBlock ask) = true
+is_of_session (asks.AbandonBlock ask) = true
+is_of_session (asks.Complete ask) = true
 is_of_session (asks.UpdateBlockForPipeline block client) = true
-is_of_session (asks.GetAdditionalDatanode src block existing excludes count client ids) = true
-is_of_session (asks.UpdatePipeline client block block' nodes ids) = true
+is_of_session (asks.GetAdditionalDatanode ask) = true
+is_of_session (asks.UpdatePipeline ask) = true
 is_of_session ask = false
 
 -- What the active namenode answers to any other ask: it renews leases that it doesn't keep, what it did is known, it is the active one, and
@@ -104,9 +79,9 @@ StandsForNone loaded fault = ⊥
 -- A datanode more is asked for, of a block of an open file, and each of so many datanodes is existing or excluded; or a block more of an open
 -- file that has no empty one to be given again, and each of them is excluded.
 abbrev pub LacksDatanode : ℕ → Picture → Ask → Type 0
-LacksDatanode count p (asks.AddBlock src client previous excludes file_id) = LacksPlace (space_in p) count src previous excludes
-LacksDatanode count p (asks.GetAdditionalDatanode src block existing excludes number client ids) =
-    IsBeingWritten p src block × AreBarred (is_barred existing excludes) count
+LacksDatanode count p (asks.AddBlock ask) = LacksPlace (space_in p) count ask.src ask.previous ask.excludes
+LacksDatanode count p (asks.GetAdditionalDatanode ask) =
+    IsBeingWritten p ask.src ask.blk × AreBarred (is_barred ask.existings ask.excludes) count
 LacksDatanode count p ask = ⊥
 
 -- The active namenode fails: it finds none of so many datanodes, and answers an exception. Nothing changes.
@@ -142,7 +117,7 @@ is_answered (Err fault) = true
 
 -- `complete` is answered that the file isn't closed, and another ask is lost
 abbrev pub false_answer : Ask → Result Answer AskFault
-false_answer (asks.Complete src client last file_id) = Ok (answers.Complete false)
+false_answer (asks.Complete ask) = Ok (answers.Complete false)
 false_answer ask = Err faults.Broken
 
 -- what a namenode answers that is planned to fail so: an exception has no message

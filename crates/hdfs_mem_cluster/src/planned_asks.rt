@@ -86,7 +86,7 @@ fn false_answer(ask: &Ask) -> Result<Answer, AskFault>
     ensures { result ≡ spec.false_answer ask.now }
 {
     match ask {
-        Ask::Complete { .. } => Ok(Answer::Complete(false)),
+        Ask::Complete(_) => Ok(Answer::Complete(false)),
         _ => Err(AskFault::Broken),
     }
 }

@@ -2,18 +2,22 @@
 ghost use Rattle.std.specs.Prelude.{◌≡◌, ℕ, map, false, IfOk};
 ghost use Rattle.std.specs.List.{list_any};
 ghost use Rattle.hdfs_cluster.specs.Namenode.{IsShaped};
+ghost use Rattle.hdfs_cluster.specs.declared.asks.Ask.TheVariants as asks;
 ghost use Rattle.hdfs_mem_namenode.specs.Answering.{is_about_names as about};
 ghost use Rattle.hdfs_mem_cluster.specs.declared.mem_links.MemLinks.{MemLinks};
 ghost use Rattle.hdfs_mem_faults.specs.Series.{is_fault};
 ghost use Rattle.hdfs_mem_cluster.specs.Lines.{line_of};
 ghost use Rattle.hdfs_mem_cluster.specs.MemShown.{picture_at};
-ghost use Rattle.hdfs_mem_cluster.specs.Responding.{AnswersHere, IsAbandonBlock, IsAddBlock, IsCreate, IsGetAdditionalDatanode, IsUpdatePipeline, Responds, RespondsBeside, RespondsHere, StandsForNone, StandsForOther, is_failure};
+ghost use Rattle.hdfs_mem_cluster.specs.Responding.{AnswersHere, Responds, RespondsBeside, RespondsHere, StandsForNone, StandsForOther, is_failure};
 ghost use Rattle.hdfs_mem_cluster.specs.Responding as spec;
 ghost use Rattle.hdfs_mem_datanodes.specs.Nodes.{SameNodes};
 
 use crate::known::Known;
 use crate::loaded::Kept;
-use hdfs_cluster::{Answer, Ask, AskFault, Attributes};
+use hdfs_cluster::{
+    AbandonBlockAsk, AddBlockAsk, Answer, Ask, AskFault, Attributes, CreateAsk,
+    GetAdditionalDatanodeAsk, UpdatePipelineAsk,
+};
 use hdfs_mem_datanodes::Datanodes;
 use hdfs_mem_namenode::{Namespace, STANDBY, exception, is_about_names};
 use hdfs_wire::NoMemory;
@@ -75,31 +79,19 @@ pub(crate) fn is_failure_of(answer: &Result<Answer, AskFault>) -> bool
 }
 
 /// What the active namenode answers to an ask of `create`.
-fn create(alloc: Global, space: &mut Namespace, ask: &Ask) -> Result<Answer, AskFault>
-    requires { IsCreate ask.now }
-    ensures answers { AnswersHere space.old ask.now result space.new }
-    ensures shape { IfOk result (IsShaped ask.now) }
+fn create(alloc: Global, space: &mut Namespace, ask: &CreateAsk) -> Result<Answer, AskFault>
+    ensures answers { AnswersHere space.old (asks.Create ask.now) result space.new }
+    ensures shape { IfOk result (IsShaped (asks.Create ask.now)) }
 {
-    let Ask::Create {
-        src,
-        masked,
-        create_flag,
-        create_parent,
-        replication,
-        block_size,
-        ..
-    } = ask
-    else {
-        unreachable!();
-    };
     let attributes = Attributes {
-        permission: *masked,
-        replication: *replication,
-        block_size: *block_size,
+        permission: ask.masked,
+        replication: ask.replication,
+        block_size: ask.block_size,
         encrypted: false,
     };
-    let overwrite = *create_flag == OVERWRITE;
-    let status = space.create(alloc, src.as_str(), attributes, overwrite, *create_parent)?;
+    let overwrite = ask.create_flag == OVERWRITE;
+    let src = ask.src.as_str();
+    let status = space.create(alloc, src, attributes, overwrite, ask.create_parent)?;
     Ok(Answer::Create(Some(status)))
 }
 
@@ -109,38 +101,29 @@ fn add_block(
     loaded: &[Kept],
     space: &mut Namespace,
     nodes: &Datanodes,
-    ask: &Ask,
+    ask: &AddBlockAsk,
 ) -> Result<Answer, AskFault>
-    requires { IsAddBlock ask.now }
-    ensures responds { RespondsBeside (map line_of loaded.now) nodes.now space.old ask.now result space.new }
-    ensures shape { IfOk result (IsShaped ask.now) }
+    ensures responds { RespondsBeside (map line_of loaded.now) nodes.now space.old (asks.AddBlock ask.now) result
+        space.new }
+    ensures shape { IfOk result (IsShaped (asks.AddBlock ask.now)) }
 {
-    let Ask::AddBlock {
-        src,
-        previous,
-        excludes,
-        ..
-    } = ask
-    else {
-        unreachable!();
-    };
-    let excludes = excludes.as_slice();
-    match space.extend(alloc, nodes, src.as_str(), previous, excludes)? {
+    let excludes = ask.excludes.as_slice();
+    match space.extend(alloc, nodes, ask.src.as_str(), &ask.previous, excludes)? {
         Some(block) => Ok(Answer::AddBlock(block)),
         None => Err(no_datanode(alloc, loaded)?),
     }
 }
 
 /// What the active namenode answers to an ask of `abandonBlock`.
-fn abandon_block(alloc: Global, space: &mut Namespace, ask: &Ask) -> Result<Answer, AskFault>
-    requires { IsAbandonBlock ask.now }
-    ensures answers { AnswersHere space.old ask.now result space.new }
-    ensures shape { IfOk result (IsShaped ask.now) }
+fn abandon_block(
+    alloc: Global,
+    space: &mut Namespace,
+    ask: &AbandonBlockAsk,
+) -> Result<Answer, AskFault>
+    ensures answers { AnswersHere space.old (asks.AbandonBlock ask.now) result space.new }
+    ensures shape { IfOk result (IsShaped (asks.AbandonBlock ask.now)) }
 {
-    let Ask::AbandonBlock { block, src, .. } = ask else {
-        unreachable!();
-    };
-    space.abandon(alloc, src.as_str(), block)?;
+    space.abandon(alloc, ask.src.as_str(), &ask.block)?;
     Ok(Answer::AbandonBlock)
 }
 
@@ -150,46 +133,32 @@ fn additional_datanode(
     loaded: &[Kept],
     space: &Namespace,
     nodes: &Datanodes,
-    ask: &Ask,
+    ask: &GetAdditionalDatanodeAsk,
 ) -> Result<Answer, AskFault>
-    requires { IsGetAdditionalDatanode ask.now }
-    ensures responds { RespondsHere (map line_of loaded.now) nodes.now.count space.now ask.now result }
-    ensures shape { IfOk result (IsShaped ask.now) }
+    ensures responds { RespondsHere (map line_of loaded.now) nodes.now.count space.now
+        (asks.GetAdditionalDatanode ask.now) result }
+    ensures shape { IfOk result (IsShaped (asks.GetAdditionalDatanode ask.now)) }
 {
-    let Ask::GetAdditionalDatanode {
-        src,
-        blk,
-        existings,
-        excludes,
-        ..
-    } = ask
-    else {
-        unreachable!();
-    };
-    let existing = existings.as_slice();
-    let excludes = excludes.as_slice();
-    match space.additional_datanode(alloc, nodes, src.as_str(), blk, existing, excludes)? {
+    let existing = ask.existings.as_slice();
+    let excludes = ask.excludes.as_slice();
+    let src = ask.src.as_str();
+    match space.additional_datanode(alloc, nodes, src, &ask.blk, existing, excludes)? {
         Some(block) => Ok(Answer::GetAdditionalDatanode(block)),
         None => Err(no_datanode(alloc, loaded)?),
     }
 }
 
 /// What the active namenode answers to an ask of `updatePipeline`.
-fn update_pipeline(alloc: Global, space: &mut Namespace, ask: &Ask) -> Result<Answer, AskFault>
-    requires { IsUpdatePipeline ask.now }
-    ensures answers { AnswersHere space.old ask.now result space.new }
-    ensures shape { IfOk result (IsShaped ask.now) }
+fn update_pipeline(
+    alloc: Global,
+    space: &mut Namespace,
+    ask: &UpdatePipelineAsk,
+) -> Result<Answer, AskFault>
+    ensures answers { AnswersHere space.old (asks.UpdatePipeline ask.now) result space.new }
+    ensures shape { IfOk result (IsShaped (asks.UpdatePipeline ask.now)) }
 {
-    let Ask::UpdatePipeline {
-        old_block,
-        new_block,
-        new_nodes,
-        ..
-    } = ask
-    else {
-        unreachable!();
-    };
-    space.update_pipeline(alloc, old_block, new_block, new_nodes.as_slice())?;
+    let nodes = ask.new_nodes.as_slice();
+    space.update_pipeline(alloc, &ask.old_block, &ask.new_block, nodes)?;
     Ok(Answer::UpdatePipeline)
 }
 
@@ -201,14 +170,14 @@ fn is_of_session(ask: &Ask) -> bool
         ask,
         Ask::GetBlockLocations { .. }
             | Ask::GetServerDefaults
-            | Ask::Create { .. }
+            | Ask::Create(_)
             | Ask::Append { .. }
-            | Ask::AddBlock { .. }
-            | Ask::AbandonBlock { .. }
-            | Ask::Complete { .. }
+            | Ask::AddBlock(_)
+            | Ask::AbandonBlock(_)
+            | Ask::Complete(_)
             | Ask::UpdateBlockForPipeline { .. }
-            | Ask::GetAdditionalDatanode { .. }
-            | Ask::UpdatePipeline { .. }
+            | Ask::GetAdditionalDatanode(_)
+            | Ask::UpdatePipeline(_)
     )
 }
 
@@ -255,26 +224,26 @@ pub(crate) fn respond(
             Ok(Answer::GetBlockLocations(Some(found)))
         }
         Ask::GetServerDefaults => Ok(Answer::GetServerDefaults(known.config.settings.defaults)),
-        Ask::Create { .. } => create(alloc, space, ask),
+        Ask::Create(ask) => create(alloc, space, ask),
         Ask::Append { src, .. } => Ok(Answer::Append(space.append(alloc, nodes, src.as_str())?)),
-        Ask::AddBlock { .. } => add_block(alloc, known.loaded, space, nodes, ask),
-        Ask::AbandonBlock { .. } => abandon_block(alloc, space, ask),
-        Ask::Complete { src, last, .. } => {
-            space.complete(alloc, src.as_str(), last)?;
+        Ask::AddBlock(ask) => add_block(alloc, known.loaded, space, nodes, ask),
+        Ask::AbandonBlock(ask) => abandon_block(alloc, space, ask),
+        Ask::Complete(ask) => {
+            space.complete(alloc, ask.src.as_str(), &ask.last)?;
             Ok(Answer::Complete(true))
         }
         Ask::UpdateBlockForPipeline { block, .. } => {
             let block = space.update_block_for_pipeline(alloc, block)?;
             Ok(Answer::UpdateBlockForPipeline(block))
         }
-        Ask::GetAdditionalDatanode { .. } => additional_datanode(
+        Ask::GetAdditionalDatanode(ask) => additional_datanode(
             alloc,
             known.loaded,
             space,
             nodes,
             ask,
         ),
-        Ask::UpdatePipeline { .. } => update_pipeline(alloc, space, ask),
+        Ask::UpdatePipeline(ask) => update_pipeline(alloc, space, ask),
         _ => unreachable!(),
     }
 }

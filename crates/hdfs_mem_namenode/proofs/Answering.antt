@@ -9,6 +9,8 @@ use Rattle.std.specs.Option.{option_map}
 use Rattle.std.specs.Str.{bytes_eq}
 use Rattle.hdfs_cluster.specs.declared.asks.Ask.{Ask}
 use Rattle.hdfs_cluster.specs.declared.asks.Ask.TheVariants as asks
+use Rattle.hdfs_cluster.specs.declared.asks.GetAdditionalDatanodeAsk.{GetAdditionalDatanodeAsk}
+use Rattle.hdfs_cluster.specs.declared.asks.UpdatePipelineAsk.{UpdatePipelineAsk}
 use Rattle.hdfs_cluster.specs.declared.asks.Answer.{Answer}
 use Rattle.hdfs_cluster.specs.declared.asks.Answer.TheVariants as answers
 use Rattle.hdfs_cluster.specs.declared.asks.AskFault.{AskFault}
@@ -138,35 +140,35 @@ module _ (p q : Picture) (i : ℕ) (active : i ≡ p.active) where
       → Answers p i (asks.UpdateBlockForPipeline block client) (Err fault) q
   answers_not_stamped block client = answers_stray (asks.UpdateBlockForPipeline block client)
 
-  module _ (src text : List ℕ) (is_text : text ≡ src) (block : Block) (client : List ℕ) (existing excludes : List DatanodeInfo) (number : ℕ) (ids : List (List ℕ)) where
-    pub answers_one_more : (count : ℕ) (olds outs : List DatanodeInfo) → olds ≡ existing → outs ≡ excludes → (located : LocatedBlock) → IsOfOpen p.names text block.block_id → AddsLowest count olds outs located.locs
-        → SamePicture p q → Answers p i (asks.GetAdditionalDatanode src block existing excludes number client ids) (Ok (answers.GetAdditionalDatanode located)) q
+  module _ (ask : GetAdditionalDatanodeAsk) (text : List ℕ) (is_text : text ≡ ask.src) where
+    pub answers_one_more : (count : ℕ) (olds outs : List DatanodeInfo) → olds ≡ ask.existings → outs ≡ ask.excludes → (located : LocatedBlock) → IsOfOpen p.names text ask.blk.block_id → AddsLowest count olds outs located.locs
+        → SamePicture p q → Answers p i (asks.GetAdditionalDatanode ask) (Ok (answers.GetAdditionalDatanode located)) q
     answers_one_more count olds outs is_olds is_outs located of_file adds same =
-        let written = being_written p src block (subst (λ (t : List ℕ). IsOfOpen p.names t block.block_id) is_text of_file) in
-        let adds' = subst (λ (l : List DatanodeInfo). AddsLowest count existing l located.locs) is_outs (subst (λ (l : List DatanodeInfo). AddsLowest count l outs located.locs) is_olds adds) in
-        (active, same.active, tt, (written, adds_one count existing excludes located.locs adds', same.rest))
+        let written = being_written p ask.src ask.blk (subst (λ (t : List ℕ). IsOfOpen p.names t ask.blk.block_id) is_text of_file) in
+        let adds' = subst (λ (l : List DatanodeInfo). AddsLowest count ask.existings l located.locs) is_outs (subst (λ (l : List DatanodeInfo). AddsLowest count l outs located.locs) is_olds adds) in
+        (active, same.active, tt, (written, adds_one count ask.existings ask.excludes located.locs adds', same.rest))
 
-    stray_text : (fault : AskFault) → StandsForStray (IsOfOpen p.names text block.block_id → ⊥) fault → StandsForStray (IsBeingWritten p src block → ⊥) fault
+    stray_text : (fault : AskFault) → StandsForStray (IsOfOpen p.names text ask.blk.block_id → ⊥) fault → StandsForStray (IsBeingWritten p ask.src ask.blk → ⊥) fault
     stray_text faults.NoMemory stray = stray
-    stray_text (faults.Exception class message) stray = (λ written. stray.0 (subst (λ (t : List ℕ). IsOfOpen p.names t block.block_id) (sym is_text) (of_open p src block written)), stray.1, stray.2)
+    stray_text (faults.Exception class message) stray = (λ written. stray.0 (subst (λ (t : List ℕ). IsOfOpen p.names t ask.blk.block_id) (sym is_text) (of_open p ask.src ask.blk written)), stray.1, stray.2)
     stray_text faults.Broken stray = absurd stray
     stray_text (faults.BadReply fault) stray = absurd stray
     stray_text (faults.Fatal class message) stray = absurd stray
 
-    pub answers_not_one_more : (fault : AskFault) → StandsForStray (IsOfOpen p.names text block.block_id → ⊥) fault → SamePicture p q
-        → Answers p i (asks.GetAdditionalDatanode src block existing excludes number client ids) (Err fault) q
-    answers_not_one_more fault stray = answers_stray (asks.GetAdditionalDatanode src block existing excludes number client ids) fault (stray_text fault stray)
+    pub answers_not_one_more : (fault : AskFault) → StandsForStray (IsOfOpen p.names text ask.blk.block_id → ⊥) fault → SamePicture p q
+        → Answers p i (asks.GetAdditionalDatanode ask) (Err fault) q
+    answers_not_one_more fault stray = answers_stray (asks.GetAdditionalDatanode ask) fault (stray_text fault stray)
 
-  module _ (block block' : Block) (client : List ℕ) (nodes : List DatanodeId) (ids : List (List ℕ)) where
-    pub answers_renewed : (locs : List DatanodeId) → locs ≡ nodes → Renews p.table block block' locs q.table → ((path : List ℕ) → q.names path ≡ p.names path) → KeepsBytes p q → q.active ≡ p.active
-        → Answers p i (asks.UpdatePipeline client block block' nodes ids) (Ok answers.UpdatePipeline) q
+  module _ (ask : UpdatePipelineAsk) where
+    pub answers_renewed : (locs : List DatanodeId) → locs ≡ ask.new_nodes → Renews p.table ask.old_block ask.new_block locs q.table → ((path : List ℕ) → q.names path ≡ p.names path) → KeepsBytes p q → q.active ≡ p.active
+        → Answers p i (asks.UpdatePipeline ask) (Ok answers.UpdatePipeline) q
     answers_renewed locs is renews names bytes stays =
-        let h = subst (λ (l : List DatanodeId). Renews p.table block block' l q.table) is renews in
+        let h = subst (λ (l : List DatanodeId). Renews p.table ask.old_block ask.new_block l q.table) is renews in
         (active, stays, tt, record { same_id = h.same_id; entry = h.entry; is = h.is; changes = record { names = names; table = h.listed; bytes = bytes } })
 
-    pub answers_not_renewed : (fault : AskFault) → StandsForStray ((block.block_id ≡ block'.block_id) × IsSome (p.table block.block_id) → ⊥) fault → SamePicture p q
-        → Answers p i (asks.UpdatePipeline client block block' nodes ids) (Err fault) q
-    answers_not_renewed = answers_stray (asks.UpdatePipeline client block block' nodes ids)
+    pub answers_not_renewed : (fault : AskFault) → StandsForStray ((ask.old_block.block_id ≡ ask.new_block.block_id) × IsSome (p.table ask.old_block.block_id) → ⊥) fault → SamePicture p q
+        → Answers p i (asks.UpdatePipeline ask) (Err fault) q
+    answers_not_renewed = answers_stray (asks.UpdatePipeline ask)
 
 pub same_picture : (p : Picture) → SamePicture p p
 same_picture p = record { rest = record { files = record { names = λ path. refl; table = λ id. refl; held = λ node id. refl; defaults = refl }; reads = λ link. refl; writes = λ link. refl }; active = refl }
@@ -174,31 +176,31 @@ same_picture p = record { rest = record { files = record { names = λ path. refl
 pub shaped_found : (src : List ℕ) (offset length : ℕ) (found : LocatedBlocks) → found.file_length < 2 ^ 63 → Follow 0 found.file_length found.blocks → IsShaped (asks.GetBlockLocations src offset length) (answers.GetBlockLocations (Some found))
 shaped_found src offset length found short follow = (short, all_within 0 found.file_length found.blocks follow short, λ whole. follow)
 
-pub shaped_one_more : (src : List ℕ) (block : Block) (client : List ℕ) (existing excludes : List DatanodeInfo) (number : ℕ) (ids : List (List ℕ)) (count : ℕ) (olds outs : List DatanodeInfo) → olds ≡ existing
-    → (located : LocatedBlock) → IsToWrite located → AddsLowest count olds outs located.locs → IsShaped (asks.GetAdditionalDatanode src block existing excludes number client ids) (answers.GetAdditionalDatanode located)
-shaped_one_more src block client existing excludes number ids count olds outs is located shape adds =
-    (shape, (adds_one count existing outs located.locs (subst (λ (l : List DatanodeInfo). AddsLowest count l outs located.locs) is adds)).0)
+pub shaped_one_more : (ask : GetAdditionalDatanodeAsk) (count : ℕ) (olds outs : List DatanodeInfo) → olds ≡ ask.existings
+    → (located : LocatedBlock) → IsToWrite located → AddsLowest count olds outs located.locs → IsShaped (asks.GetAdditionalDatanode ask) (answers.GetAdditionalDatanode located)
+shaped_one_more ask count olds outs is located shape adds =
+    (shape, (adds_one count ask.existings outs located.locs (subst (λ (l : List DatanodeInfo). AddsLowest count l outs located.locs) is adds)).0)
 
 serves_own : (p : Picture) (ask : Ask) → IsStray p ask → IsOwn p ask
-serves_own p (asks.AddBlock src client previous excludes file_id) h = h
-serves_own p (asks.AbandonBlock block src client file_id) h = h
-serves_own p (asks.Complete src client last file_id) h = h
+serves_own p (asks.AddBlock ask) h = h
+serves_own p (asks.AbandonBlock ask) h = h
+serves_own p (asks.Complete ask) h = h
 serves_own p (asks.UpdateBlockForPipeline block client) h = h
-serves_own p (asks.GetAdditionalDatanode src block existing excludes count client ids) h = h
-serves_own p (asks.UpdatePipeline client block block' nodes ids) h = h
+serves_own p (asks.GetAdditionalDatanode ask) h = h
+serves_own p (asks.UpdatePipeline ask) h = h
 serves_own p ask h = absurd h
 
 unknown_own : (p : Picture) (ask : Ask) → IsUnknown ask → IsOwn p ask
 unknown_own p (asks.GetBlockLocations src offset length) h = absurd h
 unknown_own p asks.GetServerDefaults h = h
-unknown_own p (asks.Create src masked client flag parents replication block_size) h = h
+unknown_own p (asks.Create ask) h = h
 unknown_own p (asks.Append src client flag) h = absurd h
-unknown_own p (asks.AddBlock src client previous excludes file_id) h = absurd h
-unknown_own p (asks.AbandonBlock block src client file_id) h = absurd h
-unknown_own p (asks.Complete src client last file_id) h = absurd h
+unknown_own p (asks.AddBlock ask) h = absurd h
+unknown_own p (asks.AbandonBlock ask) h = absurd h
+unknown_own p (asks.Complete ask) h = absurd h
 unknown_own p (asks.UpdateBlockForPipeline block client) h = absurd h
-unknown_own p (asks.GetAdditionalDatanode src block existing excludes count client ids) h = absurd h
-unknown_own p (asks.UpdatePipeline client block block' nodes ids) h = absurd h
+unknown_own p (asks.GetAdditionalDatanode ask) h = absurd h
+unknown_own p (asks.UpdatePipeline ask) h = absurd h
 unknown_own p (asks.GetFileInfo src) h = absurd h
 unknown_own p (asks.GetListing src from located) h = absurd h
 unknown_own p (asks.GetAclStatus src) h = absurd h

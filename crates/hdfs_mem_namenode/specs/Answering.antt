@@ -51,27 +51,26 @@ IsLocated answer = Unit {0}
 
 -- a block is named that isn't listed, or that no open file has, or that can't be given up, or none where there is one
 abbrev pub IsStray : Picture → Ask → Type 0
-IsStray p (asks.AddBlock src client previous excludes file_id) = IsOwn p (asks.AddBlock src client previous excludes file_id)
-IsStray p (asks.AbandonBlock block src client file_id) = IsOwn p (asks.AbandonBlock block src client file_id)
-IsStray p (asks.Complete src client last file_id) = IsOwn p (asks.Complete src client last file_id)
+IsStray p (asks.AddBlock ask) = IsOwn p (asks.AddBlock ask)
+IsStray p (asks.AbandonBlock ask) = IsOwn p (asks.AbandonBlock ask)
+IsStray p (asks.Complete ask) = IsOwn p (asks.Complete ask)
 IsStray p (asks.UpdateBlockForPipeline block client) = IsOwn p (asks.UpdateBlockForPipeline block client)
-IsStray p (asks.GetAdditionalDatanode src block existing excludes count client ids) =
-    IsOwn p (asks.GetAdditionalDatanode src block existing excludes count client ids)
-IsStray p (asks.UpdatePipeline client block block' nodes ids) = IsOwn p (asks.UpdatePipeline client block block' nodes ids)
+IsStray p (asks.GetAdditionalDatanode ask) = IsOwn p (asks.GetAdditionalDatanode ask)
+IsStray p (asks.UpdatePipeline ask) = IsOwn p (asks.UpdatePipeline ask)
 IsStray p ask = ⊥
 
 -- an ask that a cluster in memory has no answer to
 abbrev pub IsUnknown : Ask → Type 0
 IsUnknown (asks.GetBlockLocations src offset length) = ⊥
 IsUnknown asks.GetServerDefaults = ⊥
-IsUnknown (asks.Create src masked client flag parents replication block_size) = ⊥
+IsUnknown (asks.Create ask) = ⊥
 IsUnknown (asks.Append src client flag) = ⊥
-IsUnknown (asks.AddBlock src client previous excludes file_id) = ⊥
-IsUnknown (asks.AbandonBlock block src client file_id) = ⊥
-IsUnknown (asks.Complete src client last file_id) = ⊥
+IsUnknown (asks.AddBlock ask) = ⊥
+IsUnknown (asks.AbandonBlock ask) = ⊥
+IsUnknown (asks.Complete ask) = ⊥
 IsUnknown (asks.UpdateBlockForPipeline block client) = ⊥
-IsUnknown (asks.GetAdditionalDatanode src block existing excludes count client ids) = ⊥
-IsUnknown (asks.UpdatePipeline client block block' nodes ids) = ⊥
+IsUnknown (asks.GetAdditionalDatanode ask) = ⊥
+IsUnknown (asks.UpdatePipeline ask) = ⊥
 IsUnknown (asks.GetFileInfo src) = ⊥
 IsUnknown (asks.GetListing src from located) = ⊥
 IsUnknown (asks.GetAclStatus src) = ⊥

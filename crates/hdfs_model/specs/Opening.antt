@@ -4,6 +4,7 @@ use Rattle.hdfs_cluster.specs.declared.asks.Answer.{Answer}
 use Rattle.hdfs_cluster.specs.declared.asks.Answer.TheVariants as answers
 use Rattle.hdfs_cluster.specs.declared.asks.Ask.{Ask}
 use Rattle.hdfs_cluster.specs.declared.asks.Ask.TheVariants as asks
+use Rattle.hdfs_cluster.specs.Asks.{create_ask}
 use Rattle.hdfs_cluster.specs.declared.messages.Appended.{Appended}
 use Rattle.hdfs_cluster.specs.declared.messages.FileStatusMsg.{FileStatusMsg}
 use Rattle.hdfs_cluster.specs.declared.messages.ServerDefaults.{ServerDefaults}
@@ -18,7 +19,7 @@ create_flag options = if options.overwrite then 3 else 1
 -- the ask of this client for a new file, which has this replication and block size
 abbrev pub creating : List ℕ → List ℕ → WriteOptions → ℕ → ℕ → Ask
 creating path client options replication block_size =
-    asks.Create path options.permission client (create_flag options) options.create_parent replication block_size
+    create_ask path options.permission client (create_flag options) options.create_parent replication block_size
 
 -- its ask for a file that is gone on with
 abbrev pub appending : List ℕ → List ℕ → ℕ → Ask

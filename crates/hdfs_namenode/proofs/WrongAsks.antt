@@ -4,6 +4,7 @@ use Rattle.std.proofs.Common.{inl, inr, refl, sym, ap, arith}
 use Rattle.std.proofs.lemmas.Bool.{false≢true}
 use Rattle.hdfs_cluster.specs.declared.asks.Ask.{Ask}
 use Rattle.hdfs_cluster.specs.declared.asks.Ask.TheVariants as asks
+use Rattle.hdfs_cluster.specs.Asks.{create_ask}
 use Rattle.hdfs_cluster.specs.declared.asks.Answer.{Answer}
 use Rattle.hdfs_cluster.specs.declared.asks.AskFault.{AskFault}
 use Rattle.hdfs_cluster.specs.declared.asks.AskFault.TheVariants as faults
@@ -47,9 +48,9 @@ pub read_is_forgotten : (answer : Answer) (proxy : NameServiceProxy) → proxy.r
 read_is_forgotten answer proxy first same = cc (first, same)
 
 abbrev permission_of : Ask → ℕ
-permission_of (asks.Create src masked client flag parent replication block_size) = masked
+permission_of (asks.Create ask) = ask.masked
 permission_of ask = 0
 
 -- a file is asked for with the permission that was given, and with no other
-pub permission_is_asked : (src client : List ℕ) → asks.Create src 384 client 1 true 3 8 ≢ asks.Create src 420 client 1 true 3 8
+pub permission_is_asked : (src client : List ℕ) → create_ask src 384 client 1 true 3 8 ≢ create_ask src 420 client 1 true 3 8
 permission_is_asked src client same = omega (arith, ap permission_of same)

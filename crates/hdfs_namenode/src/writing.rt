@@ -4,6 +4,7 @@ ghost use Rattle.hdfs_cluster.specs.Effects.{HasOneMore};
 ghost use Rattle.hdfs_cluster.specs.Namenode.{IsToWrite};
 ghost use Rattle.hdfs_cluster.specs.Requests.{AskOf};
 ghost use Rattle.hdfs_cluster.specs.declared.asks.Ask.TheVariants as asks;
+ghost use Rattle.hdfs_cluster.specs.Asks.{abandon_block_ask, add_block_ask, additional_datanode_ask, complete_ask, create_ask, update_pipeline_ask};
 ghost use Rattle.hdfs_cluster.specs.declared.asks.Answer.TheVariants as answers;
 ghost use Rattle.hdfs_namenode.specs.Asked.{AskedOnce, IsServiceOf, as_answer};
 ghost use Rattle.hdfs_namenode.specs.Relaying.{Came};
@@ -12,8 +13,9 @@ ghost use Rattle.hdfs_namenode.specs.Views.{Seen};
 use crate::copies::copy_block;
 use crate::protocol::NamenodeProtocol;
 use hdfs_cluster::{
-    Answer, Appended, Ask, Block, Cluster, DatanodeId, DatanodeInfo, FileStatusMsg, HdfsError,
-    LocatedBlock, copy_ids, copy_nodes, copy_texts,
+    AbandonBlockAsk, AddBlockAsk, Answer, Appended, Ask, Block, Cluster, CompleteAsk, CreateAsk,
+    DatanodeId, DatanodeInfo, FileStatusMsg, GetAdditionalDatanodeAsk, HdfsError, LocatedBlock,
+    UpdatePipelineAsk, copy_ids, copy_nodes, copy_texts,
 };
 use hdfs_wire::{NoMemory, Text};
 
@@ -35,19 +37,19 @@ impl NamenodeProtocol {
     ) -> Result<Option<FileStatusMsg>, HdfsError>
         requires service { IsServiceOf (proxy_of self.old) (C.shown cluster.old) }
         requires allowed { C.allows (AskOf
-            (asks.Create src.now masked (name_of self.old) create_flag create_parent replication block_size)) }
+            (create_ask src.now masked (name_of self.old) create_flag create_parent replication block_size)) }
         ensures asked { AskedOnce C.serves true
-            (asks.Create src.now masked (name_of self.old) create_flag create_parent replication block_size)
+            (create_ask src.now masked (name_of self.old) create_flag create_parent replication block_size)
             (through self.old cluster.old) (as_answer answers.Create result) (through self.new cluster.new) }
         ensures came { Seen C.shown (through self.old cluster.old) cluster.new
-            (λ old new. Came old (asks.Create src.now masked (name_of self.old) create_flag create_parent
+            (λ old new. Came old (create_ask src.now masked (name_of self.old) create_flag create_parent
             replication block_size) (as_answer answers.Create result) new) }
         ensures answered { IfOk result (λ status. C.may_answer
-            (asks.Create src.now masked (name_of self.old) create_flag create_parent replication block_size)
+            (create_ask src.now masked (name_of self.old) create_flag create_parent replication block_size)
             (answers.Create status)) }
         ensures keeps { SameClient self.old self.new }
     {
-        let ask = Ask::Create {
+        let ask = Ask::Create(CreateAsk {
             src: Text::from_str(self.alloc, src)?,
             masked,
             client_name: self.client.copy(self.alloc)?,
@@ -55,7 +57,7 @@ impl NamenodeProtocol {
             create_parent,
             replication,
             block_size,
-        };
+        });
         let answer = self.ask(cluster, ask, true);
         match answer {
             Ok(Answer::Create(status)) => Ok(status),
@@ -109,15 +111,15 @@ impl NamenodeProtocol {
     ) -> Result<LocatedBlock, HdfsError>
         requires service { IsServiceOf (proxy_of self.old) (C.shown cluster.old) }
         requires allowed { C.allows (AskOf
-            (asks.AddBlock src.now (name_of self.old) (option_copied previous) excludes.now file_id)) }
+            (add_block_ask src.now (name_of self.old) (option_copied previous) excludes.now file_id)) }
         ensures asked { AskedOnce C.serves true
-            (asks.AddBlock src.now (name_of self.old) (option_copied previous.entry) excludes.now file_id)
+            (add_block_ask src.now (name_of self.old) (option_copied previous.entry) excludes.now file_id)
             (through self.old cluster.old) (as_answer answers.AddBlock result) (through self.new cluster.new) }
         ensures came { Seen C.shown (through self.old cluster.old) cluster.new
-            (λ old new. Came old (asks.AddBlock src.now (name_of self.old) (option_copied previous.entry)
+            (λ old new. Came old (add_block_ask src.now (name_of self.old) (option_copied previous.entry)
             excludes.now file_id) (as_answer answers.AddBlock result) new) }
         ensures answered { IfOk result (λ located. C.may_answer
-            (asks.AddBlock src.now (name_of self.old) (option_copied previous.entry) excludes.now file_id)
+            (add_block_ask src.now (name_of self.old) (option_copied previous.entry) excludes.now file_id)
             (answers.AddBlock located)) }
         ensures keeps { SameClient self.old self.new }
     {
@@ -140,12 +142,12 @@ impl NamenodeProtocol {
         file_id: Option<u64>,
     ) -> Result<(), HdfsError>
         requires service { IsServiceOf (proxy_of self.old) (C.shown cluster.old) }
-        requires allowed { C.allows (AskOf (asks.AbandonBlock block.now src.now (name_of self.old) file_id)) }
-        ensures asked { AskedOnce C.serves true (asks.AbandonBlock block.now src.now (name_of self.old) file_id)
+        requires allowed { C.allows (AskOf (abandon_block_ask block.now src.now (name_of self.old) file_id)) }
+        ensures asked { AskedOnce C.serves true (abandon_block_ask block.now src.now (name_of self.old) file_id)
             (through self.old cluster.old) (as_answer (λ _. answers.AbandonBlock) result)
             (through self.new cluster.new) }
         ensures came { Seen C.shown (through self.old cluster.old) cluster.new
-            (λ old new. Came old (asks.AbandonBlock block.now src.now (name_of self.old) file_id) (as_answer (λ
+            (λ old new. Came old (abandon_block_ask block.now src.now (name_of self.old) file_id) (as_answer (λ
             _. answers.AbandonBlock) result) new) }
         ensures keeps { SameClient self.old self.new }
     {
@@ -165,12 +167,12 @@ impl NamenodeProtocol {
     ) -> Result<bool, HdfsError>
         requires service { IsServiceOf (proxy_of self.old) (C.shown cluster.old) }
         requires allowed { C.allows (AskOf
-            (asks.Complete src.now (name_of self.old) (option_copied last) file_id)) }
-        ensures asked { AskedOnce C.serves true (asks.Complete src.now (name_of self.old) (option_copied last.entry)
+            (complete_ask src.now (name_of self.old) (option_copied last) file_id)) }
+        ensures asked { AskedOnce C.serves true (complete_ask src.now (name_of self.old) (option_copied last.entry)
             file_id)
             (through self.old cluster.old) (as_answer answers.Complete result) (through self.new cluster.new) }
         ensures came { Seen C.shown (through self.old cluster.old) cluster.new
-            (λ old new. Came old (asks.Complete src.now (name_of self.old) (option_copied last.entry) file_id)
+            (λ old new. Came old (complete_ask src.now (name_of self.old) (option_copied last.entry) file_id)
             (as_answer answers.Complete result) new) }
         ensures keeps { SameClient self.old self.new }
     {
@@ -231,18 +233,18 @@ impl NamenodeProtocol {
     ) -> Result<LocatedBlock, HdfsError>
         requires service { IsServiceOf (proxy_of self.old) (C.shown cluster.old) }
         requires allowed { C.allows (AskOf
-            (asks.GetAdditionalDatanode src.now blk.now existings.now excludes.now num_additional_nodes
+            (additional_datanode_ask src.now blk.now existings.now excludes.now num_additional_nodes
             (name_of self.old) existing_storage_uuids.now)) }
-        ensures asked { AskedOnce C.serves true (asks.GetAdditionalDatanode src.now blk.now existings.now excludes.now
+        ensures asked { AskedOnce C.serves true (additional_datanode_ask src.now blk.now existings.now excludes.now
             num_additional_nodes
             (name_of self.old) existing_storage_uuids.now) (through self.old cluster.old)
             (as_answer answers.GetAdditionalDatanode result) (through self.new cluster.new) }
         ensures came { Seen C.shown (through self.old cluster.old) cluster.new
-            (λ old new. Came old (asks.GetAdditionalDatanode src.now blk.now existings.now excludes.now
+            (λ old new. Came old (additional_datanode_ask src.now blk.now existings.now excludes.now
             num_additional_nodes (name_of self.old) existing_storage_uuids.now) (as_answer
             answers.GetAdditionalDatanode result) new) }
         ensures answered { IfOk result (λ located. C.may_answer
-            (asks.GetAdditionalDatanode src.now blk.now existings.now excludes.now num_additional_nodes
+            (additional_datanode_ask src.now blk.now existings.now excludes.now num_additional_nodes
             (name_of self.old) existing_storage_uuids.now) (answers.GetAdditionalDatanode located)) }
         ensures shape { IfOk result (λ located. IsToWrite located × HasOneMore existings.now located.locs) }
         ensures keeps { SameClient self.old self.new }
@@ -275,13 +277,13 @@ impl NamenodeProtocol {
     ) -> Result<(), HdfsError>
         requires service { IsServiceOf (proxy_of self.old) (C.shown cluster.old) }
         requires allowed { C.allows (AskOf
-            (asks.UpdatePipeline (name_of self.old) old_block.now new_block.now new_nodes.now storage_ids.now)) }
-        ensures asked { AskedOnce C.serves true (asks.UpdatePipeline (name_of self.old) old_block.now new_block.now
+            (update_pipeline_ask (name_of self.old) old_block.now new_block.now new_nodes.now storage_ids.now)) }
+        ensures asked { AskedOnce C.serves true (update_pipeline_ask (name_of self.old) old_block.now new_block.now
             new_nodes.now
             storage_ids.now) (through self.old cluster.old) (as_answer (λ _. answers.UpdatePipeline) result)
             (through self.new cluster.new) }
         ensures came { Seen C.shown (through self.old cluster.old) cluster.new
-            (λ old new. Came old (asks.UpdatePipeline (name_of self.old) old_block.now new_block.now
+            (λ old new. Came old (update_pipeline_ask (name_of self.old) old_block.now new_block.now
             new_nodes.now storage_ids.now) (as_answer (λ _. answers.UpdatePipeline) result) new) }
         ensures keeps { SameClient self.old self.new }
     {
@@ -300,15 +302,15 @@ impl NamenodeProtocol {
         file_id: Option<u64>,
     ) -> Result<Ask, NoMemory>
         ensures { IfOk result (λ ask.
-            ask ≡ asks.AddBlock src.now (name_of self.now) (option_copied previous.entry) excludes.now file_id) }
+            ask ≡ add_block_ask src.now (name_of self.now) (option_copied previous.entry) excludes.now file_id) }
     {
-        Ok(Ask::AddBlock {
+        Ok(Ask::AddBlock(AddBlockAsk {
             src: Text::from_str(self.alloc, src)?,
             client_name: self.client.copy(self.alloc)?,
             previous: copy_block(self.alloc, previous)?,
             excludes: copy_nodes(self.alloc, excludes)?,
             file_id,
-        })
+        }))
     }
 
     /// The ask of `abandon_block`.
@@ -318,14 +320,14 @@ impl NamenodeProtocol {
         src: &str,
         file_id: Option<u64>,
     ) -> Result<Ask, NoMemory>
-        ensures { IfOk result (λ ask. ask ≡ asks.AbandonBlock block.now src.now (name_of self.now) file_id) }
+        ensures { IfOk result (λ ask. ask ≡ abandon_block_ask block.now src.now (name_of self.now) file_id) }
     {
-        Ok(Ask::AbandonBlock {
+        Ok(Ask::AbandonBlock(AbandonBlockAsk {
             block: block.copy(self.alloc)?,
             src: Text::from_str(self.alloc, src)?,
             client_name: self.client.copy(self.alloc)?,
             file_id,
-        })
+        }))
     }
 
     /// The ask of `complete`.
@@ -335,15 +337,15 @@ impl NamenodeProtocol {
         last: Option<&Block>,
         file_id: Option<u64>,
     ) -> Result<Ask, NoMemory>
-        ensures { IfOk result (λ ask. ask ≡ asks.Complete src.now (name_of self.now) (option_copied last.entry)
+        ensures { IfOk result (λ ask. ask ≡ complete_ask src.now (name_of self.now) (option_copied last.entry)
             file_id) }
     {
-        Ok(Ask::Complete {
+        Ok(Ask::Complete(CompleteAsk {
             src: Text::from_str(self.alloc, src)?,
             client_name: self.client.copy(self.alloc)?,
             last: copy_block(self.alloc, last)?,
             file_id,
-        })
+        }))
     }
 
     /// The ask of `update_pipeline`.
@@ -355,15 +357,15 @@ impl NamenodeProtocol {
         storage_ids: &[Text],
     ) -> Result<Ask, NoMemory>
         ensures { IfOk result (λ ask.
-            ask ≡ asks.UpdatePipeline (name_of self.now) old_block.now new_block.now new_nodes.now storage_ids.now) }
+            ask ≡ update_pipeline_ask (name_of self.now) old_block.now new_block.now new_nodes.now storage_ids.now) }
     {
-        Ok(Ask::UpdatePipeline {
+        Ok(Ask::UpdatePipeline(UpdatePipelineAsk {
             client_name: self.client.copy(self.alloc)?,
             old_block: old_block.copy(self.alloc)?,
             new_block: new_block.copy(self.alloc)?,
             new_nodes: copy_ids(self.alloc, new_nodes)?,
             storage_ids: copy_texts(self.alloc, storage_ids)?,
-        })
+        }))
     }
 
     /// The ask of `get_additional_datanode`.
@@ -376,11 +378,11 @@ impl NamenodeProtocol {
         num_additional_nodes: u32,
         existing_storage_uuids: &[Text],
     ) -> Result<Ask, NoMemory>
-        ensures { IfOk result (λ ask. ask ≡ asks.GetAdditionalDatanode src.now blk.now existings.now excludes.now
+        ensures { IfOk result (λ ask. ask ≡ additional_datanode_ask src.now blk.now existings.now excludes.now
             num_additional_nodes
             (name_of self.now) existing_storage_uuids.now) }
     {
-        Ok(Ask::GetAdditionalDatanode {
+        Ok(Ask::GetAdditionalDatanode(GetAdditionalDatanodeAsk {
             src: Text::from_str(self.alloc, src)?,
             blk: blk.copy(self.alloc)?,
             existings: copy_nodes(self.alloc, existings)?,
@@ -388,6 +390,6 @@ impl NamenodeProtocol {
             num_additional_nodes,
             client_name: self.client.copy(self.alloc)?,
             existing_storage_uuids: copy_texts(self.alloc, existing_storage_uuids)?,
-        })
+        }))
     }
 }

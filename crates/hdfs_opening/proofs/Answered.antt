@@ -4,6 +4,7 @@ use Rattle.hdfs_cluster.specs.declared.asks.Answer.{Answer}
 use Rattle.hdfs_cluster.specs.declared.asks.Answer.TheVariants as answers
 use Rattle.hdfs_cluster.specs.declared.asks.Ask.{Ask}
 use Rattle.hdfs_cluster.specs.declared.asks.Ask.TheVariants as asks
+use Rattle.hdfs_cluster.specs.Asks.{create_ask}
 use Rattle.hdfs_cluster.specs.declared.messages.Appended.{Appended}
 use Rattle.hdfs_cluster.specs.declared.messages.FileStatusMsg.{FileStatusMsg}
 use Rattle.hdfs_cluster.specs.declared.messages.LocatedBlock.{LocatedBlock}
@@ -45,7 +46,7 @@ answered_writer {may_answer} {client} writer path file_id tail at id is none ans
 pub answered_created : {may_answer : Ask → Answer → Type 0} {client : List ℕ} {shown : Shown} (writer : FileWriter) (path : List ℕ)
     (masked flag replication block_size : ℕ) (parents : Bool) (status : Option FileStatusMsg) → Stands shown writer → has_failed writer ≡ false
     → path_of writer ≡ path → file_id_of writer ≡ id_in status → tail_of writer ≡ tail_opened None None
-    → may_answer (asks.Create path masked client flag parents replication block_size) (answers.Create status) → IsAnswered may_answer client writer
+    → may_answer (create_ask path masked client flag parents replication block_size) (answers.Create status) → IsAnswered may_answer client writer
 answered_created {may_answer} {client} writer path masked flag replication block_size parents status stands fine at id is answered =
     answered_writer writer path (id_in status) (tail_opened None None) at id is (none_done writer None stands fine is)
     (inl (record {

@@ -1,6 +1,7 @@
 -- What stays of a service that is asked more than once.
 use Rattle.std.proofs.Common.{◌≡◌, ℕ, List, Some, ◌∙◌}
 use Rattle.hdfs_cluster.specs.declared.asks.Ask.TheVariants as asks
+use Rattle.hdfs_cluster.specs.Asks.{create_ask}
 use Rattle.hdfs_cluster.specs.Picture.{Picture}
 use Rattle.hdfs_cluster.specs.Repeating.{Leaves}
 use Rattle.hdfs_cluster.specs.Shown.{Shown}
@@ -69,7 +70,7 @@ picture_seen (OfService first count) s p is = absurd (cc is)
 -- the ask for a new file, from its parts
 pub making : (options : WriteOptions) {at path name client : List ℕ} {flag replication replication' block_size block_size' : ℕ} → at ≡ path → name ≡ client
     → flag ≡ create_flag options → replication' ≡ replication → block_size' ≡ block_size
-    → asks.Create at options.permission name flag options.create_parent replication' block_size' ≡ creating path client options replication block_size
+    → create_ask at options.permission name flag options.create_parent replication' block_size' ≡ creating path client options replication block_size
 making options one two three four five = cc
 
 -- and for one that is gone on with

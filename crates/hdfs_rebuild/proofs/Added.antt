@@ -6,7 +6,7 @@ use Rattle.std.specs.Prelude.{Result, Ok, Err}
 use Rattle.hdfs_cluster.specs.declared.asks.Answer.{Answer}
 use Rattle.hdfs_cluster.specs.declared.asks.Answer.TheVariants as answers
 use Rattle.hdfs_cluster.specs.declared.asks.Ask.{Ask}
-use Rattle.hdfs_cluster.specs.declared.asks.Ask.TheVariants as asks
+use Rattle.hdfs_cluster.specs.Asks.{additional_datanode_ask}
 use Rattle.hdfs_cluster.specs.declared.asks.LinkFault.{LinkFault}
 use Rattle.hdfs_cluster.specs.declared.asks.LinkFault.TheVariants as links
 use Rattle.hdfs_cluster.specs.declared.errors.HdfsError.{HdfsError}
@@ -63,7 +63,7 @@ none_fault error apart = refl
 -- One ask for a datanode more.
 module _ (plan : BlockPlan) (excludes : List DatanodeInfo) (count : ℕ) (client : List ℕ) (ids : List (List ℕ)) where
   abbrev pub adding : Ask
-  adding = asks.GetAdditionalDatanode plan.src plan.block.b plan.block.locs excludes count client ids
+  adding = additional_datanode_ask plan.src plan.block.b plan.block.locs excludes count client ids
 
   row_same : (p q : Picture) (answer : Answer) → Row p adding answer q → SameButActive p q
   row_same p q (answers.GetAdditionalDatanode located) row = row.2
@@ -76,7 +76,7 @@ module _ (plan : BlockPlan) (excludes : List DatanodeInfo) (count : ℕ) (client
 module _ (plan : BlockPlan) {excludes : List DatanodeInfo} {count : ℕ} {client : List ℕ} {ids : List (List ℕ)} {a m : Shown} where
   -- the ask with the parts that its caller names
   pub asked_so : {src : List ℕ} {existing : List DatanodeInfo} {result : Result Answer HdfsError} → src ≡ plan.src → existing ≡ plan.block.locs
-      → Came a (asks.GetAdditionalDatanode src plan.block.b existing excludes count client ids) result m → Came a (adding plan excludes count client ids) result m
+      → Came a (additional_datanode_ask src plan.block.b existing excludes count client ids) result m → Came a (adding plan excludes count client ids) result m
   asked_so same same_nodes came = came_as (cc (same, same_nodes)) refl came
 
   -- Whatever comes of it, the block waits as before.

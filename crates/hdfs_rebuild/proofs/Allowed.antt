@@ -6,7 +6,7 @@ use Rattle.std.proofs.lemmas.Bool.{cond-false, ne_eqb}
 use Rattle.std.proofs.lemmas.List.{length-map}
 use Rattle.hdfs_cluster.specs.declared.asks.Answer.{Answer}
 use Rattle.hdfs_cluster.specs.declared.asks.Ask.{Ask}
-use Rattle.hdfs_cluster.specs.declared.asks.Ask.TheVariants as asks
+use Rattle.hdfs_cluster.specs.Asks.{update_pipeline_ask}
 use Rattle.hdfs_cluster.specs.declared.messages.Block.{Block}
 use Rattle.hdfs_cluster.specs.declared.messages.DatanodeInfo.{DatanodeInfo}
 use Rattle.hdfs_cluster.specs.declared.messages.LocatedBlock.{LocatedBlock}
@@ -191,7 +191,7 @@ lets_set_up {allows} {may_answer} {client} {named} plan opening name lets = lets
 -- leave to name the pipeline of a plan
 pub lets_name : {allows : Request → Type 0} {may_answer : Ask → Answer → Type 0} {client : List ℕ} (plan : BlockPlan) (opening : Opening)
     → IsToWrite plan.block → LetsResume allows may_answer client plan opening
-    → allows (AskOf (asks.UpdatePipeline client (with_stamp_of plan.block.b opening.stamp) plan.block.b
+    → allows (AskOf (update_pipeline_ask client (with_stamp_of plan.block.b opening.stamp) plan.block.b
     (map (λ node. node.id) plan.block.locs) plan.block.storage_ids))
 lets_name {allows} {may_answer} {client} plan opening block lets =
     lets.lets.names (with_stamp_of plan.block.b opening.stamp) plan.block.b plan.block.block_token plan.block.locs plan.block.storage_types

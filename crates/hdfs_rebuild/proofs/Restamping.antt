@@ -5,6 +5,7 @@ use Rattle.hdfs_cluster.specs.declared.asks.Answer.{Answer}
 use Rattle.hdfs_cluster.specs.declared.asks.Answer.TheVariants as answers
 use Rattle.hdfs_cluster.specs.declared.asks.Ask.{Ask}
 use Rattle.hdfs_cluster.specs.declared.asks.Ask.TheVariants as asks
+use Rattle.hdfs_cluster.specs.Asks.{update_pipeline_ask}
 use Rattle.hdfs_cluster.specs.declared.errors.HdfsError.{HdfsError}
 use Rattle.hdfs_cluster.specs.declared.errors.HdfsError.TheVariants as errors
 use Rattle.hdfs_cluster.specs.declared.messages.DatanodeId.{DatanodeId}
@@ -119,7 +120,7 @@ module _ (plan : BlockPlan) {client : List ℕ} {a b : Shown} where
 
 -- The namenodes were asked to name the datanodes of a pipeline.
 abbrev pub naming : ℕ → BlockPlan → List ℕ → List DatanodeId → List (List ℕ) → Ask
-naming stamp plan client nodes ids = asks.UpdatePipeline client (with_stamp_of plan.block.b stamp) plan.block.b nodes ids
+naming stamp plan client nodes ids = update_pipeline_ask client (with_stamp_of plan.block.b stamp) plan.block.b nodes ids
 
 module _ (stamp : ℕ) (plan : BlockPlan) (client : List ℕ) (nodes : List DatanodeId) (ids : List (List ℕ)) where
   -- the datanodes that are named are those of the plan

@@ -4,7 +4,7 @@ ghost use Rattle.std.specs.Prelude.{◌≡◌, ◌<◌, ◌≤◌, ◌++◌, ◌
 ghost use Rattle.hdfs_cluster.specs.declared.picture.OpenWrite.{OpenWrite};
 ghost use Rattle.hdfs_cluster.specs.Namenode.{IsToWrite};
 ghost use Rattle.hdfs_cluster.specs.Requests.{AskOf, LetsGoOn};
-ghost use Rattle.hdfs_cluster.specs.declared.asks.Ask.TheVariants as asks;
+ghost use Rattle.hdfs_cluster.specs.Asks.{update_pipeline_ask};
 ghost use Rattle.hdfs_namenode.specs.Asked.{IsServiceOf};
 ghost use Rattle.hdfs_namenode.specs.Clients.{SameClient, name_of, proxy_of, through};
 ghost use Rattle.hdfs_namenode.specs.Views.{Seen};
@@ -115,7 +115,7 @@ fn replay_and_name<C: Cluster>(
     task: Resending,
 ) -> Result<SentAgain, WriteFault>
     requires service { IsServiceOf (proxy_of namenode.old) (C.shown cluster.old) }
-    requires allowed { C.allows (AskOf (asks.UpdatePipeline (name_of namenode.old)
+    requires allowed { C.allows (AskOf (update_pipeline_ask (name_of namenode.old)
         (with_stamp_of plan.now.block.b stamp) plan.now.block.b (map (λ node. node.id) plan.now.block.locs)
         plan.now.block.storage_ids)) }
     requires going { IsGoing (C.shown cluster.old) task.link task.core }

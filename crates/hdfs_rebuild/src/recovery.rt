@@ -4,6 +4,7 @@ ghost use Rattle.std.specs.Prelude.{◌≡◌, IfOk, IfErr, OnOk, map};
 ghost use Rattle.hdfs_namenode.specs.Asked.{IsServiceOf};
 ghost use Rattle.hdfs_cluster.specs.Requests.{AskOf, IsStamped};
 ghost use Rattle.hdfs_cluster.specs.declared.asks.Ask.TheVariants as asks;
+ghost use Rattle.hdfs_cluster.specs.Asks.{update_pipeline_ask};
 ghost use Rattle.hdfs_namenode.specs.Clients.{SameClient, name_of, proxy_of, through};
 ghost use Rattle.hdfs_namenode.specs.Views.{Seen};
 ghost use Rattle.hdfs_rebuild.specs.Between.{KeepsLinks};
@@ -84,7 +85,7 @@ pub(crate) fn name_pipeline<C: Cluster>(
     stamp: u64,
 ) -> Result<(), WriteFault>
     requires service { IsServiceOf (proxy_of namenode.old) (C.shown cluster.old) }
-    requires allowed { C.allows (AskOf (asks.UpdatePipeline (name_of namenode.old)
+    requires allowed { C.allows (AskOf (update_pipeline_ask (name_of namenode.old)
         (with_stamp_of plan.now.block.b stamp) plan.now.block.b (map (λ node. node.id) plan.now.block.locs)
         plan.now.block.storage_ids)) }
     ensures links { KeepsLinks (C.shown cluster.old) (C.shown cluster.new) }

@@ -4,7 +4,7 @@ ghost use Rattle.hdfs_mem_cluster.specs.MemShown.{shown_of};
 
 use crate::memory::telling::tell_given;
 use crate::steps::{Said, Words, is_true, octal, small};
-use hdfs_cluster::{Ask, Cluster};
+use hdfs_cluster::{Ask, Cluster, CompleteAsk, CreateAsk};
 use hdfs_mem_cluster::MemCluster;
 use hdfs_wire::{Blob, NoMemory, Text};
 use std::alloc::Global;
@@ -17,7 +17,7 @@ fn ask_of(alloc: Global, words: &Words<'_>) -> Result<Ask, NoMemory> {
     let src = Text::from_str(alloc, words[3])?;
     let client_name = Text::new(alloc);
     Ok(match words[2] {
-        "create" => Ask::Create {
+        "create" => Ask::Create(CreateAsk {
             src,
             masked: octal(words[6]),
             client_name,
@@ -25,18 +25,18 @@ fn ask_of(alloc: Global, words: &Words<'_>) -> Result<Ask, NoMemory> {
             create_parent: is_true(words[5]),
             replication: small(words[7]),
             block_size: 8,
-        },
+        }),
         "append" => Ask::Append {
             src,
             client_name,
             flag: 4,
         },
-        "complete" => Ask::Complete {
+        "complete" => Ask::Complete(CompleteAsk {
             src,
             client_name,
             last: None,
             file_id: None,
-        },
+        }),
         "getFileInfo" => Ask::GetFileInfo { src },
         "getListing" => Ask::GetListing {
             src,

@@ -5,7 +5,7 @@ ghost use Rattle.hdfs_step_tests.specs.Namenodes.{shown_of};
 use crate::namenodes::fake_namenodes::{FakeNamenodes, Gives};
 use crate::namenodes::telling::{tell_asked, tell_error};
 use crate::steps::{Said, Words};
-use hdfs_cluster::Ask;
+use hdfs_cluster::{Ask, CompleteAsk};
 use hdfs_namenode::NameServiceProxy;
 use hdfs_wire::Text;
 use std::alloc::Global;
@@ -35,12 +35,12 @@ pub(crate) fn set_gives(namenodes: &mut FakeNamenodes, words: &Words<'_>) {
 /// A write, or a read.
 fn ask_of(alloc: Global, write: bool) -> Ask {
     if write {
-        Ask::Complete {
+        Ask::Complete(CompleteAsk {
             src: Text::new(alloc),
             client_name: Text::new(alloc),
             last: None,
             file_id: None,
-        }
+        })
     } else {
         Ask::GetServerDefaults
     }

@@ -214,7 +214,7 @@ fn answer_of(alloc: Global, state: u32, encrypts: bool, ask: &Ask) -> Option<Ans
     ensures { IfSome result (λ answer. IsShaped ask.now answer × (IsFalse answer → ⊥)) }
 {
     match ask {
-        Ask::Complete { .. } => Some(Answer::Complete(true)),
+        Ask::Complete(_) => Some(Answer::Complete(true)),
         Ask::GetServerDefaults => Some(Answer::GetServerDefaults(ServerDefaults {
             encrypt_data_transfer: encrypts,
             ..DEFAULTS

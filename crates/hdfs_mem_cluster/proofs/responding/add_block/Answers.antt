@@ -1,25 +1,21 @@
 -- The active namenode answers `addBlock` by its row, or finds no datanode.
-use Rattle.std.proofs.Common.{◌≡◌, ◌⊎◌, inl, ℕ, List, map, Option, Some, Ok, Err, sym, subst}
+use Rattle.std.proofs.Common.{◌≡◌, ◌⊎◌, inl, ℕ, List, map, Option, Some, subst}
 use Rattle.std.proofs.lemmas.Result.{err_from_is_err_and}
 use Rattle.std.specs.BTreeMap.{get_by_text}
 use Rattle.std.specs.Prelude.{MatchOption, IfSome}
-use Rattle.hdfs_cluster.specs.declared.asks.Ask.{Ask}
-use Rattle.hdfs_cluster.specs.declared.asks.Answer.TheVariants as answers
 use Rattle.hdfs_cluster.specs.declared.messages.Block.{Block}
 use Rattle.hdfs_cluster.specs.declared.messages.DatanodeInfo.{DatanodeInfo}
 use Rattle.hdfs_cluster.specs.declared.messages.LocatedBlock.{LocatedBlock}
 use Rattle.hdfs_cluster.specs.declared.picture.Entry.TheVariants as entries
 use Rattle.hdfs_cluster.specs.declared.picture.FileEntry.{FileEntry}
-use Rattle.hdfs_cluster.specs.Namenode.{IsShaped, IsToWrite}
+use Rattle.hdfs_cluster.specs.Namenode.{IsToWrite}
 use Rattle.hdfs_mem_datanodes.specs.declared.datanodes.Datanodes.{Datanodes}
 use Rattle.hdfs_mem_namenode.specs.declared.namespace.Namespace.{Namespace}
 use Rattle.hdfs_mem_namenode.specs.Adding.{AddsLast, GivesLast, SameSpace}
-use Rattle.hdfs_mem_namenode.specs.Answering.{Answers}
 use Rattle.hdfs_mem_namenode.specs.Pipelines.{LacksPlace}
 use Rattle.hdfs_mem_namenode.specs.Spaces.{space_of}
 use Rattle.hdfs_mem_cluster.specs.Lines.{line_of}
 use Rattle.hdfs_mem_cluster.specs.MemShown.{picture_at}
-use Rattle.hdfs_mem_cluster.specs.Responding.{Responds}
 use Rattle.hdfs_mem_cluster.proofs.Failing.{lacks_place, responds_none}
 use Rattle.hdfs_mem_cluster.proofs.Written.{answers_added, answers_not_added, same_looks}
 use Rattle.hdfs_mem_cluster.proofs.responding.add_block.Goals as goal
@@ -34,51 +30,43 @@ Found space space' nodes text previous outs found =
 
 pub returns-in_err-block-clause-responds : goal.returns-in_err-block-clause-responds
 returns-in_err-block-clause-responds c = λ settings links i here.
-    let e = c.in-AddBlock in
+    let ask = c.args.ask.now in
     let r = err_from_is_err_and c.from_residual.result c.from_residual.ensures.1 in
     let fault = c.in_err-block.field-0.0 in
     let h = c.in_err-block.ensures in
-    let p = picture_at c.args.space.now c.args.nodes.now settings links in
-    let q = picture_at c.extend.new.self c.args.nodes.now settings links in
-    rw (r.1, r.2) (inl (subst (λ (ask : Ask). Answers p i ask (Err fault) q) (sym e.is)
-    (answers_not_added c.args.space.now c.extend.new.self c.args.nodes.now settings links i here c.as_str.result.now e.src c.as_str.ensures e.client_name e.previous e.excludes e.file_id fault h.stray h.err)))
+    rw (r.1, r.2) (inl (answers_not_added c.args.space.now c.extend.new.self c.args.nodes.now settings links i here c.as_str.result.now ask c.as_str.ensures fault h.stray h.err))
 
 pub returns-in-Some-clause-responds : goal.returns-in-Some-clause-responds
 returns-in-Some-clause-responds c = λ settings links i here.
-    let e = c.in-AddBlock in
+    let ask = c.args.ask.now in
     let block = c.in-Some.block in
     let space = c.args.space.now in
     let space' = c.extend.new.self in
     let nodes = c.args.nodes.now in
     let text = c.as_str.result.now in
     let outs = c.as_slice-excludes.result.now in
-    let p = picture_at space nodes settings links in
-    let q = picture_at space' nodes settings links in
-    let added = subst (Found space space' nodes text e.previous outs) c.in-Some.is c.in_ok-block.ensures.added in
-    inl (subst (λ (ask : Ask). Answers p i ask (Ok (answers.AddBlock block)) q) (sym e.is)
-    (answers_added space space' nodes settings links i here text e.src c.as_str.ensures e.client_name e.previous e.excludes outs c.as_slice-excludes.ensures e.file_id block added))
+    let added = subst (Found space space' nodes text ask.previous outs) c.in-Some.is c.in_ok-block.ensures.added in
+    inl (answers_added space space' nodes settings links i here text ask c.as_str.ensures outs c.as_slice-excludes.ensures block added)
 
 pub returns-in-Some-clause-shape : goal.returns-in-Some-clause-shape
 returns-in-Some-clause-shape c =
-    let e = c.in-AddBlock in
-    let shape = subst (λ (found : Option LocatedBlock). IfSome found (λ block. IsToWrite block × (block.b.num_bytes ≡ 0))) c.in-Some.is c.in_ok-block.ensures.shape in
-    subst (λ (ask : Ask). IsShaped ask (answers.AddBlock c.in-Some.block)) (sym e.is) shape
+    subst (λ (found : Option LocatedBlock). IfSome found (λ block. IsToWrite block × (block.b.num_bytes ≡ 0))) c.in-Some.is c.in_ok-block.ensures.shape
 
 pub returns-in_err-no_datanode-in-None-clause-responds : goal.returns-in_err-no_datanode-in-None-clause-responds
 returns-in_err-no_datanode-in-None-clause-responds c = λ settings links i here.
-    let e = c.in-AddBlock in
+    let ask = c.args.ask.now in
     let space = c.args.space.now in
     let space' = c.extend.new.self in
     let nodes = c.args.nodes.now in
     let text = c.as_str.result.now in
     let outs = c.as_slice-excludes.result.now in
     let r = err_from_is_err_and c.from_residual-in_err-no_datanode-in-None.result c.from_residual-in_err-no_datanode-in-None.ensures.1 in
-    let lacks = subst (Found space space' nodes text e.previous outs) c.in-None.is c.in_ok-block.ensures.added in
+    let lacks = subst (Found space space' nodes text ask.previous outs) c.in-None.is c.in_ok-block.ensures.added in
     rw (r.1, r.2) (inl (same_looks space space' nodes settings links lacks.1))
 
 pub returns-in_ok-no_datanode-in-None-clause-responds : goal.returns-in_ok-no_datanode-in-None-clause-responds
 returns-in_ok-no_datanode-in-None-clause-responds c = λ settings links i here.
-    let e = c.in-AddBlock in
+    let ask = c.args.ask.now in
     let space = c.args.space.now in
     let space' = c.extend.new.self in
     let nodes = c.args.nodes.now in
@@ -88,7 +76,6 @@ returns-in_ok-no_datanode-in-None-clause-responds c = λ settings links i here.
     let q = picture_at space' nodes settings links in
     let loaded = map line_of c.args.loaded.now in
     let fault = c.in_ok-no_datanode-in-None.field-0 in
-    let lacks = subst (Found space space' nodes text e.previous outs) c.in-None.is c.in_ok-block.ensures.added in
-    subst (λ (ask : Ask). Responds loaded nodes.count p i ask (Err fault) q) (sym e.is)
-    (responds_none loaded nodes.count p q i _ (same_looks space space' nodes settings links lacks.1) here
-    (lacks_place p e.src text c.as_str.ensures e.client_name e.previous e.excludes e.file_id nodes.count outs c.as_slice-excludes.ensures lacks.0) fault c.in_ok-no_datanode-in-None.ensures)
+    let lacks = subst (Found space space' nodes text ask.previous outs) c.in-None.is c.in_ok-block.ensures.added in
+    responds_none loaded nodes.count p q i _ (same_looks space space' nodes settings links lacks.1) here
+    (lacks_place p ask text c.as_str.ensures nodes.count outs c.as_slice-excludes.ensures lacks.0) fault c.in_ok-no_datanode-in-None.ensures

@@ -51,7 +51,7 @@ returns-in_err-complete-in-Complete-clause-responds c = λ links.
     let h = c.in_err-complete-in-Complete.ensures in
     let q = picture_at c.complete.new.self c.args.nodes.now config.settings links in
     rw (r.1, r.2) (inl (subst (λ (ask : Ask). Answers (picture_at c.args.space.now c.args.nodes.now config.settings links) c.args.i ask (Err fault) q) (sym e.is)
-    (answers_not_completed c.args.space.now c.complete.new.self c.args.nodes.now config.settings links c.args.i c.if-i-known.false c.as_str-in-Complete.result.now e.src c.as_str-in-Complete.ensures e.client_name e.last e.file_id fault h.stray h.err)))
+    (answers_not_completed c.args.space.now c.complete.new.self c.args.nodes.now config.settings links c.args.i c.if-i-known.false c.as_str-in-Complete.result.now e.ask c.as_str-in-Complete.ensures fault h.stray h.err)))
 
 pub returns-in_ok-complete-in-Complete-clause-responds : goal.returns-in_ok-complete-in-Complete-clause-responds
 returns-in_ok-complete-in-Complete-clause-responds c = λ links.
@@ -59,7 +59,7 @@ returns-in_ok-complete-in-Complete-clause-responds c = λ links.
     let e = c.in-Complete in
     let q = picture_at c.complete.new.self c.args.nodes.now config.settings links in
     inl (subst (λ (ask : Ask). Answers (picture_at c.args.space.now c.args.nodes.now config.settings links) c.args.i ask (Ok (answers.Complete true)) q) (sym e.is)
-    (answers_completed c.args.space.now c.complete.new.self c.args.nodes.now config.settings links c.args.i c.if-i-known.false c.as_str-in-Complete.result.now e.src c.as_str-in-Complete.ensures e.client_name e.last e.file_id c.in_ok-complete-in-Complete.ensures.done))
+    (answers_completed c.args.space.now c.complete.new.self c.args.nodes.now config.settings links c.args.i c.if-i-known.false c.as_str-in-Complete.result.now e.ask c.as_str-in-Complete.ensures c.in_ok-complete-in-Complete.ensures.done))
 
 pub returns-in_err-append-in-Append-clause-responds : goal.returns-in_err-append-in-Append-clause-responds
 returns-in_err-append-in-Append-clause-responds c = λ links.

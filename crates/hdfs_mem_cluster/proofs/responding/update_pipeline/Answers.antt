@@ -1,10 +1,7 @@
 -- The active namenode answers `updatePipeline` by its row.
-use Rattle.std.proofs.Common.{Ok, Err, refl, sym, ap, subst}
+use Rattle.std.proofs.Common.{refl, ap}
 use Rattle.std.proofs.lemmas.Result.{err_from_is_err_and}
 use Rattle.std.specs.BTreeMap.{get_by_text}
-use Rattle.hdfs_cluster.specs.declared.asks.Ask.{Ask}
-use Rattle.hdfs_cluster.specs.declared.asks.Answer.TheVariants as answers
-use Rattle.hdfs_mem_namenode.specs.Answering.{Answers}
 use Rattle.hdfs_mem_namenode.proofs.Answering.{answers_renewed, answers_not_renewed}
 use Rattle.hdfs_mem_cluster.specs.MemShown.{picture_at}
 use Rattle.hdfs_mem_cluster.proofs.Written.{same_parts}
@@ -12,20 +9,18 @@ use Rattle.hdfs_mem_cluster.proofs.responding.update_pipeline.Goals as goal
 
 pub returns-in_err-update_pipeline-clause-answers : goal.returns-in_err-update_pipeline-clause-answers
 returns-in_err-update_pipeline-clause-answers c = λ nodes settings links i here.
-    let e = c.in-UpdatePipeline in
+    let ask = c.args.ask.now in
     let r = err_from_is_err_and c.from_residual.result c.from_residual.ensures.1 in
     let fault = c.in_err-update_pipeline.field-0.0 in
     let h = c.in_err-update_pipeline.ensures in
     let p = picture_at c.args.space.now nodes settings links in
     let q = picture_at c.update_pipeline.new.self nodes settings links in
     let same = same_parts c.args.space.now c.update_pipeline.new.self nodes settings links (c.update_pipeline.ensures.names, h.err) in
-    rw (r.1, r.2) (subst (λ (ask : Ask). Answers p i ask (Err fault) q) (sym e.is)
-    (answers_not_renewed p q i here e.old_block e.new_block e.client_name e.new_nodes e.storage_ids fault h.stray same))
+    rw (r.1, r.2) (answers_not_renewed p q i here ask fault h.stray same)
 
 pub returns-clause-answers : goal.returns-clause-answers
 returns-clause-answers c = λ nodes settings links i here.
-    let e = c.in-UpdatePipeline in
+    let ask = c.args.ask.now in
     let p = picture_at c.args.space.now nodes settings links in
     let q = picture_at c.update_pipeline.new.self nodes settings links in
-    subst (λ (ask : Ask). Answers p i ask (Ok answers.UpdatePipeline) q) (sym e.is)
-    (answers_renewed p q i here e.old_block e.new_block e.client_name e.new_nodes e.storage_ids c.as_slice.result.now c.as_slice.ensures c.in_ok-update_pipeline.ensures.renewed (λ path. ap (λ names. get_by_text names path) c.update_pipeline.ensures.names) (record { held = λ node id. refl; defaults = refl; reads = λ link. refl; writes = λ link. refl }) refl)
+    answers_renewed p q i here ask c.as_slice-nodes.result.now c.as_slice-nodes.ensures c.in_ok-update_pipeline.ensures.renewed (λ path. ap (λ names. get_by_text names path) c.update_pipeline.ensures.names) (record { held = λ node id. refl; defaults = refl; reads = λ link. refl; writes = λ link. refl }) refl

@@ -5,6 +5,7 @@ use Rattle.std.specs.Prelude.{unwrap_or}
 use Rattle.hdfs_cluster.specs.declared.asks.Answer.TheVariants as answers
 use Rattle.hdfs_cluster.specs.declared.asks.Ask.{Ask}
 use Rattle.hdfs_cluster.specs.declared.asks.Ask.TheVariants as asks
+use Rattle.hdfs_cluster.specs.Asks.{create_ask}
 use Rattle.hdfs_file_writer.specs.Writers.{AreSizes, IsAnswered}
 use Rattle.hdfs_file_writer.specs.declared.sizes.WriteSizes.{WriteSizes}
 use Rattle.hdfs_namenode.specs.Asked.{AskedOnce}
@@ -156,6 +157,6 @@ returns-clause-stands g c =
       subst (λ (client : List ℕ). IsAnswered g.C.Cluster.may_answer client writer) c.in_ok-defaults.ensures.keeps.0.0.name
           (answered_created writer c.args.path _ _ _ _ _ c.in_ok-status.status (c.new-file.ensures.stands shown) c.new-file.ensures.idle.1 c.new-file.ensures.path.0
           (c.new-file.ensures.path.2 ∙ c.told_by-told.ensures.id) c.new-file.ensures.tail
-          (subst (λ (at : List ℕ). g.C.Cluster.may_answer (asks.Create at options.permission c.limited_defaults.new.namenode.client c.create_flag.result options.create_parent
+          (subst (λ (at : List ℕ). g.C.Cluster.may_answer (create_ask at options.permission c.limited_defaults.new.namenode.client c.create_flag.result options.create_parent
           c.unwrap_or-replication.result c.unwrap_or-block_size.result) (answers.Create c.in_ok-status.status)) c.as_str.ensures c.in_ok-status.ensures.answered)),
     )

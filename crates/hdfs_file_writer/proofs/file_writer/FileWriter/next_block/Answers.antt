@@ -9,7 +9,7 @@ use Rattle.hdfs_file_writer.proofs.Standing.{answered_adds, unanswered_fails}
 use Rattle.std.specs.Prelude.{option_copied}
 use Rattle.hdfs_namenode.specs.Asked.{as_answer}
 use Rattle.hdfs_file_writer.proofs.Joining.{when_err, when_ok}
-use Rattle.hdfs_cluster.specs.declared.asks.Ask.TheVariants as asks
+use Rattle.hdfs_cluster.specs.Asks.{add_block_ask}
 use Rattle.hdfs_cluster.specs.declared.asks.Answer.TheVariants as answers
 use Rattle.hdfs_rebuild.proofs.Allowed.{allowed_as}
 use Rattle.hdfs_file_writer.proofs.file_writer.FileWriter.next_block.Goals as goal
@@ -32,6 +32,6 @@ returns-clause-adds g c = when_ok c.add_block.result _ (λ located is view has.
 pub add_block-requires-clause-allowed : goal.add_block-requires-clause-allowed
 add_block-requires-clause-allowed g c =
     let w = c.args.self.now in
-    let asked : asks.AddBlock c.as_str.result.now (name_of c.args.namenode.now) (option_copied c.as_ref.result) c.args.excluded.now w.file_id
-    ≡ asks.AddBlock w.path (name_of c.args.namenode.now) w.last c.args.excluded.now w.file_id = cc (c.as_str.ensures, c.as_ref.ensures.value) in
+    let asked : add_block_ask c.as_str.result.now (name_of c.args.namenode.now) (option_copied c.as_ref.result) c.args.excluded.now w.file_id
+    ≡ add_block_ask w.path (name_of c.args.namenode.now) w.last c.args.excluded.now w.file_id = cc (c.as_str.ensures, c.as_ref.ensures.value) in
     allowed_as g.C.Cluster.allows asked (c.requires.adds.allowed.adds w.last c.args.excluded.now (c.requires.adds.answered.last c.requires.begins.1) c.requires.first)
