@@ -3,6 +3,7 @@ use Rattle.std.proofs.Common.{◌≡◌, ◌⊎◌, ℕ, ◌+◌, ◌<◌, ◌�
 use Rattle.std.proofs.lemmas.List.{append-nil}
 use Rattle.std.proofs.lemmas.List.Elements.{All-drop}
 use Rattle.hdfs_wire.specs.Outgoing.{Outgoing}
+use Rattle.hdfs_cluster.specs.declared.errors.HdfsError.{HdfsError}
 use Rattle.hdfs_cluster.specs.declared.messages.Block.{Block}
 use Rattle.hdfs_cluster.specs.Picture.{Picture}
 use Rattle.hdfs_cluster.specs.Sending.{uuids}
@@ -14,7 +15,6 @@ use Rattle.hdfs_block_reader.proofs.Prefixes.{total_cut, total_join}
 use Rattle.hdfs_rebuild.specs.declared.block_plan.BlockPipeline.{BlockPipeline}
 use Rattle.hdfs_rebuild.specs.declared.block_plan.BlockPlan.{BlockPlan}
 use Rattle.hdfs_rebuild.specs.declared.block_plan.RebuildSettings.{RebuildSettings}
-use Rattle.hdfs_rebuild.specs.declared.block_plan.WriteFault.{WriteFault}
 use Rattle.hdfs_block_writer.specs.declared.block_writer.BlockWriter.{BlockWriter}
 use Rattle.hdfs_block_writer.specs.BlockWriters.{Carries, GoesOver, IsKept, link_in, link_of, safe_of, start_of}
 use Rattle.hdfs_rebuild.specs.Between.{OnlyBlockOf}
@@ -46,8 +46,8 @@ module _ (w : BlockWriter) (pipe : BlockPipeline) (packet : Outgoing) (a : Shown
   pub can_push_last : CanPush w.settings a pipe w.length packet
   can_push_last = can_push a w pipe packet kept over last.begins (omega (arith, at_end, ap length last.empty))
 
-  pub last_not_pushed : (b : Shown) (fault : WriteFault) → PushesNot w.settings a pipe packet fault b → GaveUp a w fault b
-  last_not_pushed b fault not = not_pushed w pipe packet is kept.filled starts_before empty last.begins a b fault not
+  pub last_not_pushed : (b : Shown) (error : HdfsError) → PushesNot w.settings a pipe packet error b → GaveUp a w error b
+  last_not_pushed b error not = not_pushed w pipe packet is kept.filled starts_before empty last.begins a b error not
 
   -- It was pushed.
   module _ (b : Shown) (pipe' : BlockPipeline) (pushed : Pushes w.settings a pipe packet b pipe') where
@@ -79,12 +79,12 @@ module _ (w : BlockWriter) (pipe : BlockPipeline) (packet : Outgoing) (a : Shown
 
     module _ (z : Shown) where
       -- it isn't acknowledged
-      pub not_finished : (fault : WriteFault) → FinishesNot w.settings b pipe' fault z → GaveUp a w fault z
-      not_finished fault not other there =
-          subst (λ (y : BlockPipeline). GivesUp w.settings y (IsCarrying w) a fault z) (pipe_is pipe other (sym is ∙ there))
+      pub not_finished : (error : HdfsError) → FinishesNot w.settings b pipe' error z → GaveUp a w error z
+      not_finished error not other there =
+          subst (λ (y : BlockPipeline). GivesUp w.settings y (IsCarrying w) a error z) (pipe_is pipe other (sym is ∙ there))
           (gives_up_since w.settings pipe pipe' (IsCarrying w) (IsOver pipe' []) a b z
           (since_steady a b pipe pipe' pushed.continues.own.later pushed.continues.steady) pushed.continues.keeps pushed.continues.own over_now
-          fault not)
+          error not)
 
       -- All are acknowledged.
       module _ (plan : BlockPlan) (f : Finishes w.settings b pipe' z plan) where

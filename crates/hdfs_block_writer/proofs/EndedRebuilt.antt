@@ -2,6 +2,9 @@
 use Rattle.std.proofs.Common.{◌≡◌, inr, ℕ, ℤ, ◌^◌, ◌<◌, List, [], drop, Option, Some, None, IsSome, refl, sym, ◌∙◌, ap, subst}
 use Rattle.std.proofs.lemmas.List.{append-nil}
 use Rattle.hdfs_wire.specs.Outgoing.{Outgoing}
+use Rattle.hdfs_cluster.specs.declared.errors.HdfsError.{HdfsError}
+use Rattle.hdfs_cluster.specs.declared.errors.HdfsError.TheVariants as errors
+use Rattle.hdfs_cluster.specs.declared.errors.TransferFault.TheVariants as transfer
 use Rattle.hdfs_cluster.specs.Pipes.{WriteEnded}
 use Rattle.hdfs_cluster.specs.Shown.{Shown}
 use Rattle.hdfs_pipeline.specs.Cores.{IsCore}
@@ -13,8 +16,6 @@ use Rattle.hdfs_pipeline.specs.declared.end.PipelineEnd.TheVariants as ends
 use Rattle.hdfs_rebuild.specs.declared.block_plan.BlockPipeline.{BlockPipeline}
 use Rattle.hdfs_rebuild.specs.declared.block_plan.BlockPlan.{BlockPlan}
 use Rattle.hdfs_rebuild.specs.declared.block_plan.RebuildSettings.{RebuildSettings}
-use Rattle.hdfs_rebuild.specs.declared.block_plan.WriteFault.{WriteFault}
-use Rattle.hdfs_rebuild.specs.declared.block_plan.WriteFault.TheVariants as faults
 use Rattle.hdfs_rebuild.specs.Attempts.{GaveNoneAfter, RebuiltAfter, standing, task_of}
 use Rattle.hdfs_block_writer.specs.OpenPipelines.{IsStanding}
 use Rattle.hdfs_block_writer.specs.Pushing.{CameFrom, FallsEnded, RebuildsEnded, with_core}
@@ -86,20 +87,20 @@ module _ (settings : RebuildSettings) (pipe : BlockPipeline) (old z m : Shown) (
         (subst (λ (xs : List Outgoing). RebuiltAfter (task_of settings client xs unsent) (standing (long_plan pipe.plan bytes) failed m) pipe' new) same
         (subst (λ (p : BlockPlan). RebuiltAfter (task_of settings client replay unsent) (standing p failed m) pipe' new) long after))
 
-    pub ended_given_up : (fault : WriteFault) (new : Shown)
-        → GaveNoneAfter (task_of settings client replay unsent) (standing plan failed m) fault new → FallsEnded settings old pipe fault new
-    ended_given_up fault new after before core came from =
+    pub ended_given_up : (error : HdfsError) (new : Shown)
+        → GaveNoneAfter (task_of settings client replay unsent) (standing plan failed m) error new → FallsEnded settings old pipe error new
+    ended_given_up error new after before core came from =
         given_up_after settings client before (with_core pipe core) came last z m failed (fell before core came from failed is) bytes unsent below
-        fault new
-        (subst (λ (xs : List Outgoing). GaveNoneAfter (task_of settings client xs unsent) (standing (long_plan pipe.plan bytes) failed m) fault new) same
-        (subst (λ (p : BlockPlan). GaveNoneAfter (task_of settings client replay unsent) (standing p failed m) fault new) long after))
+        error new
+        (subst (λ (xs : List Outgoing). GaveNoneAfter (task_of settings client xs unsent) (standing (long_plan pipe.plan bytes) failed m) error new) same
+        (subst (λ (p : BlockPlan). GaveNoneAfter (task_of settings client replay unsent) (standing p failed m) error new) long after))
 
-  pub ended_bad : (seqno said : ℤ) → last.end ≡ Some (Bad seqno) → FallsEnded settings old pipe (faults.BadAck said) m
+  pub ended_bad : (seqno said : ℤ) → last.end ≡ Some (Bad seqno) → FallsEnded settings old pipe (errors.DataTransferError (transfer.BadAck said)) m
   ended_bad seqno said is before core came from =
       bad_given_up settings before (with_core pipe core) came last z m seqno said (since before core came from) gone from.going is stands.block.some
 
 -- Memory was wanting for that.
 pub ended_stopped : (settings : RebuildSettings) (pipe : BlockPipeline) (old y m : Shown) → StopsShort pipe.link [] pipe.core old y
-    → WriteEnded y pipe.link m → FallsEnded settings old pipe faults.NoMemory m
+    → WriteEnded y pipe.link m → FallsEnded settings old pipe errors.NoMemory m
 ended_stopped settings pipe old y m stops gone before core came from =
     stopped_given_up settings before (with_core pipe core) came pipe.core old y m from.drove stops gone (inr from.going)

@@ -3,6 +3,9 @@ use Rattle.std.proofs.Common.{◌≡◌, inl, ℕ, ℤ, ◌+◌, ◌^◌, ◌<�
 use Rattle.std.proofs.lemmas.List.{append-nil, length-map}
 use Rattle.std.specs.List.{All, Any, slice_index_or}
 use Rattle.hdfs_wire.specs.Outgoing.{Outgoing}
+use Rattle.hdfs_cluster.specs.declared.errors.HdfsError.{HdfsError}
+use Rattle.hdfs_cluster.specs.declared.errors.HdfsError.TheVariants as errors
+use Rattle.hdfs_cluster.specs.declared.errors.TransferFault.TheVariants as transfer
 use Rattle.hdfs_cluster.specs.Picture.{Picture}
 use Rattle.hdfs_cluster.specs.Pipes.{WriteEnded}
 use Rattle.hdfs_cluster.specs.Sending.{uuids}
@@ -21,8 +24,6 @@ use Rattle.hdfs_block_reader.proofs.Prefixes.{take_whole, total_cut}
 use Rattle.hdfs_rebuild.specs.declared.block_plan.BlockPipeline.{BlockPipeline}
 use Rattle.hdfs_rebuild.specs.declared.block_plan.BlockPlan.{BlockPlan}
 use Rattle.hdfs_rebuild.specs.declared.block_plan.RebuildSettings.{RebuildSettings}
-use Rattle.hdfs_rebuild.specs.declared.block_plan.WriteFault.{WriteFault}
-use Rattle.hdfs_rebuild.specs.declared.block_plan.WriteFault.TheVariants as faults
 use Rattle.hdfs_block_writer.specs.declared.pushing.Settled.TheVariants as settled
 use Rattle.hdfs_rebuild.specs.Between.{OnlyBlockOf}
 use Rattle.hdfs_rebuild.specs.Attempts.{GaveNoneAfter, RebuiltAfter, standing, task_of}
@@ -148,19 +149,19 @@ module _ (settings : RebuildSettings) (pipe : BlockPipeline) (a z m : Shown) (la
         omega (arith, some, ap length after.recovered.pushed),
       )
 
-      pub once_given_up : (fault : WriteFault) (new : Shown)
-          → GaveNoneAfter (task_of settings client replay unsent) (standing plan failed m) fault new → FallsFor settings a pipe [] fault new
-      once_given_up fault new after =
-          given_up_after settings client a pipe [] last z m failed fell bytes unsent below fault new
-          (subst (λ (xs : List Outgoing). GaveNoneAfter (task_of settings client xs unsent) (standing (long_plan pipe.plan bytes) failed m) fault new)
+      pub once_given_up : (error : HdfsError) (new : Shown)
+          → GaveNoneAfter (task_of settings client replay unsent) (standing plan failed m) error new → FallsFor settings a pipe [] error new
+      once_given_up error new after =
+          given_up_after settings client a pipe [] last z m failed fell bytes unsent below error new
+          (subst (λ (xs : List Outgoing). GaveNoneAfter (task_of settings client xs unsent) (standing (long_plan pipe.plan bytes) failed m) error new)
           same
-          (subst (λ (p : BlockPlan). GaveNoneAfter (task_of settings client replay unsent) (standing p failed m) fault new) long after))
+          (subst (λ (p : BlockPlan). GaveNoneAfter (task_of settings client replay unsent) (standing p failed m) error new) long after))
 
-  pub once_bad : (seqno said : ℤ) → last.end ≡ Some (Bad seqno) → FallsFor settings a pipe [] (faults.BadAck said) m
+  pub once_bad : (seqno said : ℤ) → last.end ≡ Some (Bad seqno) → FallsFor settings a pipe [] (errors.DataTransferError (transfer.BadAck said)) m
   once_bad seqno said is = bad_given_up settings a pipe [] last z m seqno said drove gone going is stands.block.some
 
 -- Memory was wanting for that.
 pub once_stopped : (settings : RebuildSettings) (pipe : BlockPipeline) (a y m : Shown) → IsStanding settings a pipe []
-    → StopsShort pipe.link [] pipe.core a y → WriteEnded y pipe.link m → FallsFor settings a pipe [] faults.NoMemory m
+    → StopsShort pipe.link [] pipe.core a y → WriteEnded y pipe.link m → FallsFor settings a pipe [] errors.NoMemory m
 once_stopped settings pipe a y m stands stops gone =
     stopped_given_up settings a pipe [] pipe.core a y m (drove_refl pipe.link pipe.core a stands.drives) stops gone (inl refl)

@@ -5,6 +5,10 @@ use Rattle.std.proofs.lemmas.List.{get_or_default, length-map}
 use Rattle.std.proofs.lemmas.List.Folds.{Any-from_list_any}
 use Rattle.std.specs.List.{All, Any, list_any, slice_index_or}
 use Rattle.hdfs_wire.specs.Outgoing.{Outgoing}
+use Rattle.hdfs_cluster.specs.declared.errors.HdfsError.{HdfsError}
+use Rattle.hdfs_cluster.specs.declared.errors.HdfsError.TheVariants as errors
+use Rattle.hdfs_cluster.specs.declared.errors.IoFault.TheVariants as io_faults
+use Rattle.hdfs_cluster.specs.declared.errors.TransferFault.TheVariants as transfer
 use Rattle.hdfs_cluster.specs.declared.messages.DatanodeInfo.{DatanodeInfo}
 use Rattle.hdfs_cluster.specs.Failures.{SomeNodeRose, NodesFailTimes}
 use Rattle.hdfs_cluster.specs.Counts.{Rose}
@@ -18,8 +22,6 @@ use Rattle.hdfs_names.specs.Replacements.{ShouldReplace}
 use Rattle.hdfs_names.specs.Shown.{shown as policy_of}
 use Rattle.hdfs_rebuild.specs.declared.block_plan.BlockPipeline.{BlockPipeline}
 use Rattle.hdfs_rebuild.specs.declared.block_plan.RebuildSettings.{RebuildSettings}
-use Rattle.hdfs_rebuild.specs.declared.block_plan.WriteFault.{WriteFault}
-use Rattle.hdfs_rebuild.specs.declared.block_plan.WriteFault.TheVariants as faults
 use Rattle.hdfs_rebuild.specs.Attempts.{GaveNone, GaveNoneAfter, HasRebuildCause, Standing}
 use Rattle.hdfs_rebuild.specs.Between.{HasLastError, KeepsEntry, KeepsLinks, NamenodeFailed}
 use Rattle.hdfs_block_writer.specs.OpenPipelines.{AllListedFail, GivesUp, HasCause, IsOver, ListedFails, MayBeDue, NamenodeFails, id_of}
@@ -67,8 +69,8 @@ module _ (settings : RebuildSettings) (client : List ℕ) (a : Shown) (pipe : Bl
       (chain : MissedSince a (task settings client a pipe came last z m failed fell bytes unsent below)
       (before settings client a pipe came last z m failed fell bytes unsent below) then)
       (new : Shown) (more : List Outgoing) where
-    module _ (fault : WriteFault)
-        (none : GaveNone (task settings client a pipe came last z m failed fell bytes unsent below) then fault new) where
+    module _ (error : HdfsError)
+        (none : GaveNone (task settings client a pipe came last z m failed fell bytes unsent below) then error new) where
       links_now : KeepsLinks m new
       links_now = keeps_links_trans m then.shown new chain.links none.links
 
@@ -164,29 +166,28 @@ module _ (settings : RebuildSettings) (client : List ℕ) (a : Shown) (pipe : Bl
       last_error : HasLastError then.shown new → HasLastError a new
       last_error (error, some, tells) = (error, some, tells_since a then.shown new new error chain.later (later_refl new) refl tells)
 
-      cause : (f : WriteFault) → HasRebuildCause (task settings client a pipe came last z m failed fell bytes unsent below) then f new
+      cause : (f : HdfsError) → HasRebuildCause (task settings client a pipe came last z m failed fell bytes unsent below) then f new
           → HasCause settings pipe.plan (IsOver pipe (came ++ more)) a f new
-      cause faults.NoMemory why = tt
-      cause faults.Failed why = absurd why
-      cause faults.Link why = (node_rose, links_rose why)
-      cause faults.Setup why = (node_rose, links_rose why)
-      cause (faults.BadAck seqno) why = links_rose why
-      cause faults.AllNodes why = (node_rose, all_listed why.0 why.2)
-      cause faults.NoReplacement why = (
+      cause errors.NoMemory why = tt
+      cause (errors.IOError io_faults.Link) why = (node_rose, links_rose why)
+      cause (errors.DataTransferError transfer.Setup) why = (node_rose, links_rose why)
+      cause (errors.DataTransferError (transfer.BadAck seqno)) why = links_rose why
+      cause (errors.DataTransferError transfer.AllNodes) why = (node_rose, all_listed why.0 why.2)
+      cause (errors.DataTransferError transfer.NoReplacement) why = (
         why.1,
         node_rose,
         ⊎_elim (λ links. inl (links_rose links)) (λ namenode. inr (namenode_fails namenode.0, last_error namenode.1)) why.2,
         some_listed why.3,
         due why.0,
       )
-      cause (faults.RebuildLimit rebuilds) why = (why.0 ∙ why.1, fail_times why.1, some_listed (same_entry why.2))
-      cause (faults.Namenode error) why = (why.0, tells_since a then.shown new new error chain.later (later_refl new) refl why.1, node_rose, namenode_fails why.2)
+      cause (errors.DataTransferError (transfer.RebuildLimit rebuilds)) why = (why.0 ∙ why.1, fail_times why.1, some_listed (same_entry why.2))
+      cause error why = (tells_since a then.shown new new error chain.later (later_refl new) refl why.0, node_rose, namenode_fails why.1)
 
-      pub gives_up : GivesUp settings pipe (IsOver pipe (came ++ more)) a fault new
+      pub gives_up : GivesUp settings pipe (IsOver pipe (came ++ more)) a error new
       gives_up = record {
         own =
             own_none pipe.link a m new (until settings client a pipe came last z m failed fell bytes unsent below) fell.gone.ended links_now;
-        cause = cause fault none.cause;
+        cause = cause error none.cause;
         touches = λ p told over.
             let x = none.touches
             (then_picture settings client a pipe came last z m failed fell bytes unsent below then chain more p over.0 over.1 told over.2)
@@ -203,18 +204,18 @@ module _ (settings : RebuildSettings) (client : List ℕ) (a : Shown) (pipe : Bl
       }
 
   -- The pipeline isn't rebuilt.
-  pub given_up_after : (fault : WriteFault) (new : Shown)
+  pub given_up_after : (error : HdfsError) (new : Shown)
       → GaveNoneAfter (task settings client a pipe came last z m failed fell bytes unsent below)
-      (before settings client a pipe came last z m failed fell bytes unsent below) fault new → FallsFor settings a pipe came fault new
-  given_up_after fault new after more =
+      (before settings client a pipe came last z m failed fell bytes unsent below) error new → FallsFor settings a pipe came error new
+  given_up_after error new after more =
       gives_up after.last
       (missed_since settings client a pipe came last z m failed fell bytes unsent below after.times after.last after.missed)
-      new more fault after.gave_none
+      new more error after.gave_none
 
 -- An acknowledgement was none that was due, whatever its seqno is said to be.
 pub bad_given_up : (settings : RebuildSettings) (a : Shown) (pipe : BlockPipeline) (came : List Outgoing) (last : Pipeline) (z m : Shown)
     (seqno said : ℤ) → Drove pipe.link came pipe.core a last z → WriteEnded z pipe.link m → pipe.core.end ≡ None → last.end ≡ Some (Bad seqno)
-    → 0 < length pipe.plan.block.locs → FallsFor settings a pipe came (faults.BadAck said) m
+    → 0 < length pipe.plan.block.locs → FallsFor settings a pipe came (errors.DataTransferError (transfer.BadAck said)) m
 bad_given_up settings a pipe came last z m seqno said drove gone going is some more = record {
   own = own_none pipe.link a m m (until_gone pipe came last a z m drove gone (inr going)) gone.ended (keeps_links_refl m);
   cause =
@@ -230,7 +231,7 @@ bad_given_up settings a pipe came last z m seqno said drove gone going is some m
 -- Memory was wanting while a pipeline was driven on to its end.
 pub stopped_given_up : (settings : RebuildSettings) (a : Shown) (pipe : BlockPipeline) (came : List Outgoing) (core : Pipeline)
     (z y m : Shown) → Drove pipe.link came pipe.core a core z → StopsShort pipe.link [] core z y → WriteEnded y pipe.link m
-    → (came ≡ []) ⊎ (pipe.core.end ≡ None) → FallsFor settings a pipe came faults.NoMemory m
+    → (came ≡ []) ⊎ (pipe.core.end ≡ None) → FallsFor settings a pipe came errors.NoMemory m
 stopped_given_up settings a pipe came core z y m drove stops gone goes more = record {
   own = own_none pipe.link a m m (until_stopped pipe came core a z y m drove stops gone goes) gone.ended (keeps_links_refl m);
   cause = tt;

@@ -1,6 +1,10 @@
 -- A pipeline goes on for a while, and is given up then.
 use Rattle.std.proofs.Common.{◌≡◌, ◌⊎◌, inl, inr, ⊎_elim, ℕ, suc, ◌+◌, ◌-◌, ◌≤◌, Bool, false, not, Some, None, refl, ◌∙◌, ap, subst, arith}
 use Rattle.std.specs.List.{slice_index_or}
+use Rattle.hdfs_cluster.specs.declared.errors.HdfsError.{HdfsError}
+use Rattle.hdfs_cluster.specs.declared.errors.HdfsError.TheVariants as errors
+use Rattle.hdfs_cluster.specs.declared.errors.IoFault.TheVariants as io_faults
+use Rattle.hdfs_cluster.specs.declared.errors.TransferFault.TheVariants as transfer
 use Rattle.hdfs_cluster.specs.Failures.{NodesFailTimes}
 use Rattle.hdfs_cluster.specs.Counts.{Rose}
 use Rattle.hdfs_cluster.specs.Picture.{Picture}
@@ -11,8 +15,6 @@ use Rattle.hdfs_names.specs.Shown.{shown as policy_of}
 use Rattle.hdfs_rebuild.specs.declared.block_plan.BlockPipeline.{BlockPipeline}
 use Rattle.hdfs_rebuild.specs.declared.block_plan.BlockPlan.{BlockPlan}
 use Rattle.hdfs_rebuild.specs.declared.block_plan.RebuildSettings.{RebuildSettings}
-use Rattle.hdfs_rebuild.specs.declared.block_plan.WriteFault.{WriteFault}
-use Rattle.hdfs_rebuild.specs.declared.block_plan.WriteFault.TheVariants as faults
 use Rattle.hdfs_rebuild.specs.Between.{HasLastError, OnlyBlockOf}
 use Rattle.hdfs_block_writer.specs.OpenPipelines.{AllListedFail, GivesUp, HasCause, IsSteady, KeepsBlock, ListedFails, MayBeDue, NamenodeFails, OnlyOwnLink, RebuiltOnFailures, id_of}
 use Rattle.hdfs_cluster.proofs.Times.{fails_enough, fails_join, fails_since, fails_until, some_rose_since}
@@ -132,16 +134,15 @@ module _ (settings : RebuildSettings) (pipe pipe' : BlockPipeline) (W V : Pictur
   last_since : HasLastError b c → HasLastError a c
   last_since (error, some, tells) = (error, some, tells_since a b c c error own.later (later_refl c) refl tells)
 
-  cause_since : (fault : WriteFault) → HasCause settings pipe'.plan V b fault c → HasCause settings pipe.plan W a fault c
-  cause_since faults.NoMemory cause = tt
-  cause_since faults.Failed cause = cause
-  cause_since faults.Link cause =
+  cause_since : (error : HdfsError) → HasCause settings pipe'.plan V b error c → HasCause settings pipe.plan W a error c
+  cause_since errors.NoMemory cause = tt
+  cause_since (errors.IOError io_faults.Link) cause =
       (some_rose_since a b c own.later cause.0, rose_here (λ s. s.counts.links) own.later.counts.links cause.1)
-  cause_since faults.Setup cause =
+  cause_since (errors.DataTransferError transfer.Setup) cause =
       (some_rose_since a b c own.later cause.0, rose_here (λ s. s.counts.links) own.later.counts.links cause.1)
-  cause_since (faults.BadAck seqno) cause = rose_here (λ s. s.counts.links) own.later.counts.links cause
-  cause_since faults.AllNodes cause = (some_rose_since a b c own.later cause.0, all_since cause.1)
-  cause_since faults.NoReplacement cause = (
+  cause_since (errors.DataTransferError (transfer.BadAck seqno)) cause = rose_here (λ s. s.counts.links) own.later.counts.links cause
+  cause_since (errors.DataTransferError transfer.AllNodes) cause = (some_rose_since a b c own.later cause.0, all_since cause.1)
+  cause_since (errors.DataTransferError transfer.NoReplacement) cause = (
     cause.0,
     some_rose_since a b c own.later cause.1,
     ⊎_elim
@@ -151,19 +152,19 @@ module _ (settings : RebuildSettings) (pipe pipe' : BlockPipeline) (W V : Pictur
     listed_since cause.3,
     due_since cause.4,
   )
-  cause_since (faults.RebuildLimit rebuilds) cause = (
+  cause_since (errors.DataTransferError (transfer.RebuildLimit rebuilds)) cause = (
     cause.0,
     fails_enough (suc (settings.rebuild_limit - pipe.plan.rebuilds)) often.0 (suc (settings.rebuild_limit - pipe'.plan.rebuilds)) a b c often.2
         cause.1 (omega (arith, often.1)),
     listed_since cause.2,
   )
-  cause_since (faults.Namenode error) cause =
-      (cause.0, tells_since a b c c error own.later (later_refl c) refl cause.1, some_rose_since a b c own.later cause.2, namenode_since cause.3)
+  cause_since error cause =
+      (tells_since a b c c error own.later (later_refl c) refl cause.0, some_rose_since a b c own.later cause.1, namenode_since cause.2)
 
-  pub gives_up_since : (fault : WriteFault) → GivesUp settings pipe' V b fault c → GivesUp settings pipe W a fault c
-  gives_up_since fault g = record {
+  pub gives_up_since : (error : HdfsError) → GivesUp settings pipe' V b error c → GivesUp settings pipe W a error c
+  gives_up_since error g = record {
     own = own_link_trans a b c (Some pipe.link) (Some pipe'.link) None own g.own;
-    cause = cause_since fault g.cause;
+    cause = cause_since error g.cause;
     touches = λ p told w.
         let x = on p told w in
         let y = g.touches x.0 x.1 x.2 in
@@ -171,8 +172,8 @@ module _ (settings : RebuildSettings) (pipe pipe' : BlockPipeline) (W V : Pictur
   }
 
 -- what holds of a block that is so, holds of one that is so in another way
-pub gives_up_by : (settings : RebuildSettings) (pipe : BlockPipeline) (W V : Picture → Type 0) (a c : Shown) (fault : WriteFault)
-    → ((p : Picture) → W p → V p) → GivesUp settings pipe V a fault c → GivesUp settings pipe W a fault c
-gives_up_by settings pipe W V a c fault by g =
+pub gives_up_by : (settings : RebuildSettings) (pipe : BlockPipeline) (W V : Picture → Type 0) (a c : Shown) (error : HdfsError)
+    → ((p : Picture) → W p → V p) → GivesUp settings pipe V a error c → GivesUp settings pipe W a error c
+gives_up_by settings pipe W V a c error by g =
     gives_up_since settings pipe pipe W V a a c (0, omega arith, later_refl a) (keeps_block_refl pipe.plan) (own_link_refl a (Some pipe.link))
-    (λ p told w. (p, told, by p w, only_block_of_refl (id_of pipe) p)) fault g
+    (λ p told w. (p, told, by p w, only_block_of_refl (id_of pipe) p)) error g

@@ -2,6 +2,7 @@
 use Rattle.std.proofs.Common.{◌≡◌, inl, inr, ℕ, pos, ◌+◌, List, [], ◌∷◌, ◌++◌, length, take, drop, Option, Some, None, refl, sym, ◌∙◌, ap, subst, arith, append_assoc}
 use Rattle.std.proofs.lemmas.List.{append-nil, drop-drop, length-drop}
 use Rattle.hdfs_wire.specs.Outgoing.{Outgoing}
+use Rattle.hdfs_cluster.specs.declared.errors.HdfsError.TheVariants as errors
 use Rattle.hdfs_cluster.specs.Pipes.{BeginsAt, WriteEnded}
 use Rattle.hdfs_cluster.specs.Sending.{offset_of, end_of as packet_end}
 use Rattle.hdfs_cluster.specs.Shown.{Shown}
@@ -13,7 +14,6 @@ use Rattle.hdfs_pipeline.specs.Pipelines.{Pipeline}
 use Rattle.hdfs_block_reader.specs.Carrying.{FollowFrom, total}
 use Rattle.hdfs_rebuild.specs.declared.block_plan.BlockPipeline.{BlockPipeline}
 use Rattle.hdfs_rebuild.specs.declared.block_plan.RebuildSettings.{RebuildSettings}
-use Rattle.hdfs_rebuild.specs.declared.block_plan.WriteFault.TheVariants as faults
 use Rattle.hdfs_rebuild.specs.Between.{OnlyBlockOf}
 use Rattle.hdfs_rebuild.proofs.Resuming.{released_only}
 use Rattle.hdfs_rebuild.proofs.Stepping.{only_block_of-only, only_block_of_trans}
@@ -74,7 +74,7 @@ pushed_or_not settings a b pipe bytes packet core' (Some back) can drove is_core
 
 -- Memory was wanting while it was pushed, and the link was ended.
 pub push_stopped : (settings : RebuildSettings) (a b z : Shown) (pipe : BlockPipeline) (packet : Outgoing)
-    → StopsShort pipe.link (packet ∷ []) pipe.core a b → WriteEnded b pipe.link z → PushesNot settings a pipe packet faults.NoMemory z
+    → StopsShort pipe.link (packet ∷ []) pipe.core a b → WriteEnded b pipe.link z → PushesNot settings a pipe packet errors.NoMemory z
 push_stopped settings a b z pipe packet stops gone = record {
   own = own_link_trans a b z (Some pipe.link) (Some pipe.link) None (own_link_on a b pipe.link stops.on) (own_link_ended b z pipe.link gone);
   cause = tt;

@@ -4,6 +4,7 @@ use Rattle.std.specs.List.{All, slice_index_or}
 use Rattle.std.proofs.lemmas.List.{append-nil, length-append}
 use Rattle.std.proofs.lemmas.List.Elements.{All-take}
 use Rattle.hdfs_wire.specs.Outgoing.{Outgoing}
+use Rattle.hdfs_cluster.specs.declared.errors.HdfsError.{HdfsError}
 use Rattle.hdfs_cluster.specs.Shown.{Shown}
 use Rattle.hdfs_pipeline.specs.Cores.{IsCore}
 use Rattle.hdfs_pipeline.specs.Driving.{Drove, IsGivenBack, IsNotLast, taken_in}
@@ -12,7 +13,6 @@ use Rattle.hdfs_block_reader.specs.Carrying.{FollowFrom, total}
 use Rattle.hdfs_block_reader.proofs.Prefixes.{total_cut, total_join}
 use Rattle.hdfs_rebuild.specs.declared.block_plan.BlockPipeline.{BlockPipeline}
 use Rattle.hdfs_rebuild.specs.declared.block_plan.RebuildSettings.{RebuildSettings}
-use Rattle.hdfs_rebuild.specs.declared.block_plan.WriteFault.{WriteFault}
 use Rattle.hdfs_block_writer.specs.OpenPipelines.{IsStanding}
 use Rattle.hdfs_rebuild.specs.Plans.{NoneEndsBefore}
 use Rattle.hdfs_block_writer.specs.Pushing.{CameFrom, CanPush, FallsEnded, PushesNot, PushesOnce, RebuildsEnded, bytes_in, with_core}
@@ -106,7 +106,7 @@ module _ (settings : RebuildSettings) (a b : Shown) (pipe : BlockPipeline) (byte
     back_rebuilt (Some back) drove given pipe' rebuilds = (given.0, rebuilds a pipe.core [] (came_from [] drove))
 
     -- it is given up
-    pub back_given_up : (back : Option Outgoing) → Drove pipe.link (taken_in packet back) pipe.core a core' b → (fault : WriteFault)
-        → FallsEnded settings b (with_core pipe core') fault z → PushesNot settings a pipe packet fault z
-    back_given_up None drove fault falls = falls a pipe.core (packet ∷ []) (came_from (packet ∷ []) drove) []
-    back_given_up (Some back) drove fault falls = falls a pipe.core [] (came_from [] drove) (packet ∷ [])
+    pub back_given_up : (back : Option Outgoing) → Drove pipe.link (taken_in packet back) pipe.core a core' b → (error : HdfsError)
+        → FallsEnded settings b (with_core pipe core') error z → PushesNot settings a pipe packet error z
+    back_given_up None drove error falls = falls a pipe.core (packet ∷ []) (came_from (packet ∷ []) drove) []
+    back_given_up (Some back) drove error falls = falls a pipe.core [] (came_from [] drove) (packet ∷ [])

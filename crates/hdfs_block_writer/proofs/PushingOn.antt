@@ -4,6 +4,7 @@ use Rattle.std.specs.List.{All}
 use Rattle.std.proofs.lemmas.List.{append-nil, drop-append-le, length-append, length-drop}
 use Rattle.std.proofs.lemmas.List.Elements.{All-drop}
 use Rattle.hdfs_wire.specs.Outgoing.{Outgoing}
+use Rattle.hdfs_cluster.specs.declared.errors.HdfsError.{HdfsError}
 use Rattle.hdfs_cluster.specs.Shown.{Shown, Later}
 use Rattle.hdfs_pipeline.specs.Driving.{EndsInLast, IsNotLast}
 use Rattle.hdfs_block_reader.specs.Carrying.{HoldsWhole, total}
@@ -11,7 +12,6 @@ use Rattle.hdfs_block_reader.proofs.Prefixes.{total_cut}
 use Rattle.hdfs_rebuild.specs.declared.block_plan.BlockPipeline.{BlockPipeline}
 use Rattle.hdfs_rebuild.specs.declared.block_plan.BlockPlan.{BlockPlan}
 use Rattle.hdfs_rebuild.specs.declared.block_plan.RebuildSettings.{RebuildSettings}
-use Rattle.hdfs_rebuild.specs.declared.block_plan.WriteFault.{WriteFault}
 use Rattle.hdfs_cluster.specs.Sending.{uuids}
 use Rattle.hdfs_rebuild.specs.Between.{OnlyBlockOf}
 use Rattle.hdfs_rebuild.proofs.Stepping.{only_block_of_refl, only_block_of_trans}
@@ -36,14 +36,14 @@ continues_refl settings a pipe more standing = record {
 }
 
 -- what went on was given up then
-pub gives_up_behind : (settings : RebuildSettings) (a b c : Shown) (x y : BlockPipeline) (n : ℕ) (more : List Outgoing) (fault : WriteFault)
-    → Continues settings a x (traffic n [] more) b y → GivesUp settings y (IsOver y more) b fault c → GivesUp settings x (IsOver x more) a fault c
-gives_up_behind settings a b c x y n more fault f g =
+pub gives_up_behind : (settings : RebuildSettings) (a b c : Shown) (x y : BlockPipeline) (n : ℕ) (more : List Outgoing) (error : HdfsError)
+    → Continues settings a x (traffic n [] more) b y → GivesUp settings y (IsOver y more) b error c → GivesUp settings x (IsOver x more) a error c
+gives_up_behind settings a b c x y n more error f g =
     gives_up_since settings x y (IsOver x more) (IsOver y more) a b c (since_steady a b x y f.own.later f.steady) f.keeps f.own
     (λ p told w.
     let m = f.told p w.0 w.1 told w.2 in
     (m.0, m.1, (w.0 + total (take n x.core.pushed), w.1, m.2), m.3))
-    fault g
+    error g
 
 -- it was rebuilt as often or more often
 pub rebuilds_grow : (a b : Shown) (x y : BlockPipeline) → IsSteady a x b y → x.plan.rebuilds ≤ y.plan.rebuilds
@@ -118,8 +118,8 @@ module _ (settings : RebuildSettings) (old : Shown) (pipe : BlockPipeline) (byte
         omega (arith, r.again, within)
 
     -- it was given up
-    pub not_again : (fault : WriteFault) → PushesNot settings now pipe' packet fault new → PushesNot settings old pipe packet fault new
-    not_again fault g = gives_up_behind settings old now new pipe pipe' tries.acknowledged (packet ∷ []) fault tries.continues g
+    pub not_again : (error : HdfsError) → PushesNot settings now pipe' packet error new → PushesNot settings old pipe packet error new
+    not_again error g = gives_up_behind settings old now new pipe pipe' tries.acknowledged (packet ∷ []) error tries.continues g
 
 -- A pipeline whose last packet was pushed goes on since its end was first waited for.
 pub record WaitsAgain (settings : RebuildSettings) (old : Shown) (pipe : BlockPipeline) (now : Shown) (pipe' : BlockPipeline) : Type 0 where
@@ -168,8 +168,8 @@ module _ (settings : RebuildSettings) (old : Shown) (pipe : BlockPipeline) where
         let within = (r.continues [] w.continues.standing).standing.rebuilds in
         omega (arith, r.again, within)
 
-    pub not_finished : (fault : WriteFault) → FinishesNot settings now pipe' fault new → FinishesNot settings old pipe fault new
-    not_finished fault g = gives_up_behind settings old now new pipe pipe' w.acknowledged [] fault w.continues g
+    pub not_finished : (error : HdfsError) → FinishesNot settings now pipe' error new → FinishesNot settings old pipe error new
+    not_finished error g = gives_up_behind settings old now new pipe pipe' w.acknowledged [] error w.continues g
 
     pub finished_then : (plan : BlockPlan) → Finishes settings now pipe' new plan → Finishes settings old pipe new plan
     finished_then plan f =

@@ -4,6 +4,7 @@ use Rattle.std.specs.Prelude.{All}
 use Rattle.std.proofs.lemmas.List.{append-nil, length-append, length-drop}
 use Rattle.std.proofs.lemmas.List.Elements.{All-append, All-from_recursion, All-drop}
 use Rattle.hdfs_wire.specs.Outgoing.{Outgoing, ArePacketSizes}
+use Rattle.hdfs_cluster.specs.declared.errors.HdfsError.{HdfsError}
 use Rattle.hdfs_cluster.specs.Picture.{Picture}
 use Rattle.hdfs_cluster.specs.Shown.{Shown}
 use Rattle.hdfs_pipeline.specs.Driving.{IsNotLast}
@@ -12,7 +13,6 @@ use Rattle.hdfs_block_writer.specs.Packing.{AreNext, IsNext, filling_of}
 use Rattle.hdfs_block_reader.proofs.Prefixes.{joined_behind, joined_join, slices_from-joined, slices_join, total_cut, total_join}
 use Rattle.hdfs_rebuild.specs.declared.block_plan.BlockPipeline.{BlockPipeline}
 use Rattle.hdfs_rebuild.specs.declared.block_plan.RebuildSettings.{RebuildSettings}
-use Rattle.hdfs_rebuild.specs.declared.block_plan.WriteFault.{WriteFault}
 use Rattle.hdfs_block_writer.specs.declared.block_writer.BlockWriter.{BlockWriter}
 use Rattle.hdfs_block_writer.specs.BlockWriters.{AreFull, Carries, GoesOver, Holds, IsFilling, IsKept, SendsFull, Stands, link_in, link_of, safe_of, start_of}
 use Rattle.hdfs_rebuild.specs.Between.{OnlyBlockOf}
@@ -128,10 +128,10 @@ module _ (w : BlockWriter) (pipe : BlockPipeline) (packet : Outgoing) (is : w.pi
           ∙ c.kept
 
   -- Where the packet isn't pushed, the writer's block is given up.
-  pub not_pushed : (a b : Shown) (fault : WriteFault) → PushesNot w.settings a pipe packet fault b → GaveUp a w fault b
-  not_pushed a b fault not other there =
-      subst (λ (y : BlockPipeline). GivesUp w.settings y (IsCarrying w) a fault b) (pipe_is pipe other (sym is ∙ there))
-      (gives_up_by w.settings pipe (IsCarrying w) (IsOver pipe (packet ∷ [])) a b fault (λ p c. (safe_of w pipe, c.0, over_then p c.0 c.1)) not)
+  pub not_pushed : (a b : Shown) (error : HdfsError) → PushesNot w.settings a pipe packet error b → GaveUp a w error b
+  not_pushed a b error not other there =
+      subst (λ (y : BlockPipeline). GivesUp w.settings y (IsCarrying w) a error b) (pipe_is pipe other (sym is ∙ there))
+      (gives_up_by w.settings pipe (IsCarrying w) (IsOver pipe (packet ∷ [])) a b error (λ p c. (safe_of w pipe, c.0, over_then p c.0 c.1)) not)
 
 module _ (w w' : BlockWriter) (pipe pipe' : BlockPipeline) (packet : Outgoing) (a b : Shown) (kept : IsKept w) (over : GoesOver a pipe w)
     (is : w.packet ≡ Some packet) (pushed : Pushes w.settings a pipe packet b pipe') (keeps : Keeps w w') (len : w'.length ≡ w.length)

@@ -2,6 +2,8 @@
 use Rattle.std.proofs.Common.{◌≡◌, ℕ, ◌-◌, ◌≤◌, List, [], ◌++◌, length, take, drop, Option, Some, None, IsSome, inl, refl, sym, ◌∙◌, ap, subst, arith, append_assoc, take-append-drop}
 use Rattle.std.proofs.lemmas.List.{append-nil, drop-append-le, length-append}
 use Rattle.std.specs.List.{slice_index_or}
+use Rattle.hdfs_cluster.specs.declared.errors.HdfsError.{HdfsError}
+use Rattle.hdfs_cluster.specs.declared.errors.HdfsError.TheVariants as errors
 use Rattle.hdfs_cluster.specs.Picture.{Picture}
 use Rattle.hdfs_cluster.specs.Pipes.{WriteEnded}
 use Rattle.hdfs_cluster.specs.Shown.{Shown}
@@ -13,8 +15,6 @@ use Rattle.hdfs_block_reader.proofs.Links.{holds_longer}
 use Rattle.hdfs_block_reader.proofs.Prefixes.{prefix_longer, prefix_short, slices_longer}
 use Rattle.hdfs_rebuild.specs.declared.block_plan.BlockPipeline.{BlockPipeline}
 use Rattle.hdfs_rebuild.specs.declared.block_plan.RebuildSettings.{RebuildSettings}
-use Rattle.hdfs_rebuild.specs.declared.block_plan.WriteFault.{WriteFault}
-use Rattle.hdfs_rebuild.specs.declared.block_plan.WriteFault.TheVariants as faults
 use Rattle.hdfs_block_writer.specs.declared.block_writer.BlockWriter.{BlockWriter}
 use Rattle.hdfs_block_writer.specs.BlockWriters.{Carries, link_in, link_of, safe_of, start_of}
 use Rattle.hdfs_rebuild.specs.Between.{OnlyBlockOf}
@@ -103,23 +103,23 @@ module _ (a b : Shown) (w x : BlockWriter) (one : List ℕ) (f : Wrote a w one b
           );
     }
 
-    pub gave_up_after : (fault : WriteFault) → GaveUp b x fault c → GaveUp a w fault c
-    gave_up_after fault g pipe is =
+    pub gave_up_after : (error : HdfsError) → GaveUp b x error c → GaveUp a w error c
+    gave_up_after error g pipe is =
         let s = f.stays pipe is in
         let u = g s.0 s.1 in
         let own : OnlyOwnLink a (Some pipe.link) b (Some s.0.link) =
         subst (λ (o : Option ℕ). OnlyOwnLink a o b (Some s.0.link)) (ap link_in is)
         (subst (λ (o : Option ℕ). OnlyOwnLink a (link_of w) b o) (ap link_in s.1) f.own) in
         gives_up_since w.settings pipe s.0 (IsCarrying w) (IsCarrying x) a b c (since_steady a b pipe s.0 f.own.later s.3) s.2 own
-        (λ p told carried. carries_then p told pipe is carried) fault
-        (subst (λ (k : RebuildSettings). GivesUp k s.0 (IsCarrying x) b fault c) f.keeps.settings u)
+        (λ p told carried. carries_then p told pipe is carried) error
+        (subst (λ (k : RebuildSettings). GivesUp k s.0 (IsCarrying x) b error c) f.keeps.settings u)
 
-    pub fails_after : (y : BlockWriter) (fault : WriteFault) → Fails b x fault c y → Fails a w fault c y
-    fails_after y fault g = record { failed = g.failed; keeps = keeps_trans w x y f.keeps g.keeps; gave_up = gave_up_after fault g.gave_up }
+    pub fails_after : (y : BlockWriter) (error : HdfsError) → Fails b x error c y → Fails a w error c y
+    fails_after y error g = record { failed = g.failed; keeps = keeps_trans w x y f.keeps g.keeps; gave_up = gave_up_after error g.gave_up }
 
 -- a link was ended for want of memory, or since the writer is let go
 pub gave_up_ended : (w : BlockWriter) (a b : Shown) → ((pipe : BlockPipeline) → w.pipe ≡ Some pipe → WriteEnded a pipe.link b)
-    → GaveUp a w faults.NoMemory b
+    → GaveUp a w errors.NoMemory b
 gave_up_ended w a b ended pipe is =
     let gone = ended pipe is in record {
       own = own_link_ended a b pipe.link gone;
@@ -139,7 +139,7 @@ gave_up_ended w a b ended pipe is =
 
 -- The link was ended for want of memory, once some bytes were taken into the packet.
 pub ended_fails : (w x y : BlockWriter) (a b : Shown) → x.pipe ≡ w.pipe → Keeps w x → y ≡ record x { pipe = None; packet = None }
-    → ((pipe : BlockPipeline) → x.pipe ≡ Some pipe → WriteEnded a pipe.link b) → Fails a w faults.NoMemory b y
+    → ((pipe : BlockPipeline) → x.pipe ≡ Some pipe → WriteEnded a pipe.link b) → Fails a w errors.NoMemory b y
 ended_fails w x y a b same keeps is ended = record {
   failed = ap (λ (v : BlockWriter). v.pipe) is;
   keeps = record {

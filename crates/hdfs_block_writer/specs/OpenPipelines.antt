@@ -1,7 +1,10 @@
 -- An open pipeline of a block, which goes on as it was, or is rebuilt where datanodes of it fail.
 use Rattle.std.specs.Prelude.{◌≡◌, ◌≢◌, ◌⊎◌, ℕ, suc, ◌+◌, ◌-◌, ◌<◌, ◌≤◌, false, not, List, [], ◌∷◌, ◌++◌, length as len, take, drop, All, Any, Option, Some, None, IsSome}
 use Rattle.hdfs_wire.specs.Outgoing.{Outgoing}
+use Rattle.hdfs_cluster.specs.declared.errors.HdfsError.{HdfsError}
 use Rattle.hdfs_cluster.specs.declared.errors.HdfsError.TheVariants as errors
+use Rattle.hdfs_cluster.specs.declared.errors.IoFault.TheVariants as io_faults
+use Rattle.hdfs_cluster.specs.declared.errors.TransferFault.TheVariants as transfer
 use Rattle.hdfs_cluster.specs.declared.picture.BlockEntry.{BlockEntry}
 use Rattle.hdfs_cluster.specs.declared.picture.OpenWrite.{OpenWrite}
 use Rattle.hdfs_cluster.specs.Failures.{CallsRose, NodesFailTimes, SomeNodeRose}
@@ -20,8 +23,6 @@ use Rattle.hdfs_block_reader.specs.Rebuilding.{IsListed}
 use Rattle.hdfs_rebuild.specs.declared.block_plan.BlockPipeline.{BlockPipeline}
 use Rattle.hdfs_rebuild.specs.declared.block_plan.BlockPlan.{BlockPlan}
 use Rattle.hdfs_rebuild.specs.declared.block_plan.RebuildSettings.{RebuildSettings}
-use Rattle.hdfs_rebuild.specs.declared.block_plan.WriteFault.{WriteFault}
-use Rattle.hdfs_rebuild.specs.declared.block_plan.WriteFault.TheVariants as faults
 use Rattle.hdfs_rebuild.specs.Between.{HasLastError, OnlyBlockOf}
 use Rattle.hdfs_namenode.specs.Relaying.{TellsAsk}
 use Rattle.hdfs_rebuild.specs.Plans.{HasStamp, NoneEndsBefore}
@@ -143,29 +144,32 @@ MayBeDue settings plan =
 
 -- Why a block is given up, which is so in a told picture, and had this plan before. Want of memory alone is free.
 -- Its pipeline has been rebuilt as often as it may be only where datanodes have failed once more than it could be rebuilt still.
-abbrev pub HasCause : RebuildSettings → BlockPlan → (Picture → Type 0) → Shown → WriteFault → Shown → Type 0
-HasCause settings plan W old faults.NoMemory new = Unit {0}
-HasCause settings plan W old faults.Failed new = ⊥
-HasCause settings plan W old faults.Link new = SomeNodeRose old.counts new × Rose old.counts.links new.counts.links
-HasCause settings plan W old faults.Setup new = SomeNodeRose old.counts new × Rose old.counts.links new.counts.links
-HasCause settings plan W old (faults.BadAck seqno) new = Rose old.counts.links new.counts.links
-HasCause settings plan W old faults.AllNodes new = SomeNodeRose old.counts new × AllListedFail W plan.block.b.block_id old new
-HasCause settings plan W old faults.NoReplacement new =
+-- Any other error is one of an ask of namenodes.
+abbrev pub HasCause : RebuildSettings → BlockPlan → (Picture → Type 0) → Shown → HdfsError → Shown → Type 0
+HasCause settings plan W old errors.NoMemory new = Unit {0}
+HasCause settings plan W old (errors.IOError io_faults.Link) new =
+    SomeNodeRose old.counts new × Rose old.counts.links new.counts.links
+HasCause settings plan W old (errors.DataTransferError transfer.Setup) new =
+    SomeNodeRose old.counts new × Rose old.counts.links new.counts.links
+HasCause settings plan W old (errors.DataTransferError (transfer.BadAck seqno)) new = Rose old.counts.links new.counts.links
+HasCause settings plan W old (errors.DataTransferError transfer.AllNodes) new =
+    SomeNodeRose old.counts new × AllListedFail W plan.block.b.block_id old new
+HasCause settings plan W old (errors.DataTransferError transfer.NoReplacement) new =
     ((policy_of settings.replace).1 ≡ false) × SomeNodeRose old.counts new
     × (Rose old.counts.links new.counts.links ⊎ (NamenodeFails W old new × HasLastError old new))
     × ListedFails W plan.block.b.block_id old new × MayBeDue settings plan
-HasCause settings plan W old (faults.RebuildLimit rebuilds) new =
+HasCause settings plan W old (errors.DataTransferError (transfer.RebuildLimit rebuilds)) new =
     (rebuilds ≡ settings.rebuild_limit) × NodesFailTimes (suc (settings.rebuild_limit - plan.rebuilds)) old new
     × ListedFails W plan.block.b.block_id old new
-HasCause settings plan W old (faults.Namenode error) new =
-    (error ≢ errors.NoMemory) × TellsAsk old new error × SomeNodeRose old.counts new × NamenodeFails W old new
+HasCause settings plan W old error new =
+    TellsAsk old new error × SomeNodeRose old.counts new × NamenodeFails W old new
 
 -- The block of a pipeline, which is so in a told picture, was given up for this cause: no link of its writer is left open, and nothing
 -- changed but the block.
-pub record GivesUp (settings : RebuildSettings) (pipe : BlockPipeline) (W : Picture → Type 0) (old : Shown) (fault : WriteFault)
+pub record GivesUp (settings : RebuildSettings) (pipe : BlockPipeline) (W : Picture → Type 0) (old : Shown) (error : HdfsError)
     (new : Shown) : Type 0 where
   pub own : OnlyOwnLink old (Some pipe.link) new None
-  pub cause : HasCause settings pipe.plan W old fault new
+  pub cause : HasCause settings pipe.plan W old error new
   pub touches : (p : Picture) → old.picture ≡ Some p → W p → (q : Picture) × (new.picture ≡ Some q) × OnlyBlockOf (id_of pipe) p q
 
 -- All packets of a pipeline are acknowledged, and its link is ended. Over a told picture each of its datanodes, which are listed, holds

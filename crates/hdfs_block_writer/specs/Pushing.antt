@@ -1,6 +1,7 @@
 -- How a packet goes down a pipeline that is rebuilt where datanodes of it fail. No public clause cites this module.
 use Rattle.std.specs.Prelude.{◌≡◌, ℕ, ◌+◌, ◌^◌, ◌<◌, ◌≤◌, List, [], ◌∷◌, ◌++◌, length as len, All, Option, Some, None}
 use Rattle.hdfs_wire.specs.Outgoing.{Outgoing}
+use Rattle.hdfs_cluster.specs.declared.errors.HdfsError.{HdfsError}
 use Rattle.hdfs_cluster.specs.declared.asks.Answer.{Answer}
 use Rattle.hdfs_cluster.specs.declared.asks.Ask.{Ask}
 use Rattle.hdfs_cluster.specs.declared.picture.OpenWrite.{OpenWrite}
@@ -16,7 +17,6 @@ use Rattle.hdfs_block_reader.specs.Carrying.{FollowFrom, total}
 use Rattle.hdfs_rebuild.specs.declared.block_plan.BlockPipeline.{BlockPipeline}
 use Rattle.hdfs_rebuild.specs.declared.block_plan.BlockPlan.{BlockPlan}
 use Rattle.hdfs_rebuild.specs.declared.block_plan.RebuildSettings.{RebuildSettings}
-use Rattle.hdfs_rebuild.specs.declared.block_plan.WriteFault.{WriteFault}
 use Rattle.hdfs_block_writer.specs.declared.pushing.PushedOnce.{PushedOnce}
 use Rattle.hdfs_block_writer.specs.declared.pushing.Settled.{Settled}
 use Rattle.hdfs_block_writer.specs.declared.pushing.Settled.TheVariants as settled
@@ -58,9 +58,9 @@ pub record IsRebuilt (settings : RebuildSettings) (old : Shown) (pipe : BlockPip
   pub behind : GoesOnBehind new pipe'
 
 -- it was given up, for whichever packets were to come behind these
-abbrev pub FallsFor : RebuildSettings → Shown → BlockPipeline → List Outgoing → WriteFault → Shown → Type 0
-FallsFor settings old pipe came fault new =
-    (more : List Outgoing) → GivesUp settings pipe (IsOver pipe (came ++ more)) old fault new
+abbrev pub FallsFor : RebuildSettings → Shown → BlockPipeline → List Outgoing → HdfsError → Shown → Type 0
+FallsFor settings old pipe came error new =
+    (more : List Outgoing) → GivesUp settings pipe (IsOver pipe (came ++ more)) old error new
 
 -- a pipeline that had ended was rebuilt, as is said from when it went on
 abbrev pub RebuildsEnded : RebuildSettings → Shown → BlockPipeline → Shown → BlockPipeline → Type 0
@@ -69,10 +69,10 @@ RebuildsEnded settings old pipe new pipe' =
     → IsRebuilt settings before (with_core pipe core) came new pipe'
 
 -- it was given up, as is said from when it went on
-abbrev pub FallsEnded : RebuildSettings → Shown → BlockPipeline → WriteFault → Shown → Type 0
-FallsEnded settings old pipe fault new =
+abbrev pub FallsEnded : RebuildSettings → Shown → BlockPipeline → HdfsError → Shown → Type 0
+FallsEnded settings old pipe error new =
     (before : Shown) (core : Pipeline) (came : List Outgoing) → CameFrom before core came old pipe
-    → FallsFor settings before (with_core pipe core) came fault new
+    → FallsFor settings before (with_core pipe core) came error new
 
 -- What came of driving a pipeline to its end, whose last packet was pushed: it is done, or rebuilt with packets that were sent
 -- again.
@@ -123,12 +123,12 @@ PushesOnce settings old pipe packet pushed new = ByBack pushed.back (Pushes sett
     (λ back. (back ≡ packet) × IsRebuilt settings old pipe [] new pushed.pipe)
 
 -- the pipeline was given up, and the packet with it
-abbrev pub PushesNot : RebuildSettings → Shown → BlockPipeline → Outgoing → WriteFault → Shown → Type 0
-PushesNot settings old pipe packet fault new = GivesUp settings pipe (IsOver pipe (packet ∷ [])) old fault new
+abbrev pub PushesNot : RebuildSettings → Shown → BlockPipeline → Outgoing → HdfsError → Shown → Type 0
+PushesNot settings old pipe packet error new = GivesUp settings pipe (IsOver pipe (packet ∷ [])) old error new
 
 -- it was given up, and no packet was to come
-abbrev pub FinishesNot : RebuildSettings → Shown → BlockPipeline → WriteFault → Shown → Type 0
-FinishesNot settings old pipe fault new = GivesUp settings pipe (IsOver pipe []) old fault new
+abbrev pub FinishesNot : RebuildSettings → Shown → BlockPipeline → HdfsError → Shown → Type 0
+FinishesNot settings old pipe error new = GivesUp settings pipe (IsOver pipe []) old error new
 
 -- the pipeline goes on, and the last packet of the block was pushed last
 abbrev pub IsEnding : BlockPipeline → Type 0

@@ -1,6 +1,7 @@
 -- What the calls of a writer of one block do.
 use Rattle.std.specs.Prelude.{◌≡◌, ◌⊎◌, ℕ, pos, ◌+◌, ◌≤◌, true, List, [], ◌++◌, length, Some, None}
 use Rattle.hdfs_wire.specs.Outgoing.{Outgoing}
+use Rattle.hdfs_cluster.specs.declared.errors.HdfsError.{HdfsError}
 use Rattle.hdfs_cluster.specs.declared.asks.Answer.{Answer}
 use Rattle.hdfs_cluster.specs.declared.asks.Ask.{Ask}
 use Rattle.hdfs_cluster.specs.declared.messages.Block.{Block}
@@ -18,7 +19,6 @@ use Rattle.hdfs_block_writer.specs.Packing.{filling_of}
 use Rattle.hdfs_rebuild.specs.declared.block_plan.BlockPipeline.{BlockPipeline}
 use Rattle.hdfs_rebuild.specs.declared.block_plan.BlockPlan.{BlockPlan}
 use Rattle.hdfs_rebuild.specs.declared.block_plan.RebuildSettings.{RebuildSettings}
-use Rattle.hdfs_rebuild.specs.declared.block_plan.WriteFault.{WriteFault}
 use Rattle.hdfs_block_writer.specs.declared.block_writer.BlockWriter.{BlockWriter}
 use Rattle.hdfs_block_writer.specs.BlockWriters.{AreFull, Carries, HasFailed, length_of, link_of, size_of, start_of}
 use Rattle.hdfs_rebuild.specs.Between.{OnlyBlockOf}
@@ -97,15 +97,15 @@ abbrev pub IsCarrying : BlockWriter → Picture → Type 0
 IsCarrying writer p = (bytes : List ℕ) × Carries p writer bytes
 
 -- The writer's block was given up for this cause, and no link of it is left open.
-abbrev pub GaveUp : Shown → BlockWriter → WriteFault → Shown → Type 0
-GaveUp old writer fault new = (pipe : BlockPipeline) → writer.pipe ≡ Some pipe
-    → GivesUp writer.settings pipe (IsCarrying writer) old fault new
+abbrev pub GaveUp : Shown → BlockWriter → HdfsError → Shown → Type 0
+GaveUp old writer error new = (pipe : BlockPipeline) → writer.pipe ≡ Some pipe
+    → GivesUp writer.settings pipe (IsCarrying writer) old error new
 
 -- A call has failed, and so has the writer for good.
-pub record Fails (old : Shown) (writer : BlockWriter) (fault : WriteFault) (new : Shown) (writer' : BlockWriter) : Type 0 where
+pub record Fails (old : Shown) (writer : BlockWriter) (error : HdfsError) (new : Shown) (writer' : BlockWriter) : Type 0 where
   pub failed : HasFailed writer'
   pub keeps : Keeps writer writer'
-  pub gave_up : GaveUp old writer fault new
+  pub gave_up : GaveUp old writer error new
 
 -- Over a told picture: each datanode of the block's last pipeline, of which one is listed at least, holds the block whole. The block table
 -- has this pipeline's generation stamp, where it had that of the pipeline before.

@@ -1,11 +1,11 @@
 //! Writes a block, packet by packet.
 
 ghost use Rattle.std.specs.Prelude.{◌≡◌, ◌<◌, ◌≤◌, ◌+◌, ◌-◌, ◌^◌, ◌↔◌, [], length, take, min, None, Some, Err, IsSome, IsTrue, IfOk, IfErr, OnOk};
-ghost use Rattle.hdfs_rebuild.specs.declared.block_plan.WriteFault.TheVariants as faults;
+ghost use Rattle.hdfs_cluster.specs.declared.errors.HdfsError.TheVariants as errors;
 
-use hdfs_cluster::{Block, Cluster};
+use hdfs_cluster::{Block, Cluster, HdfsError};
 use hdfs_namenode::NamenodeProtocol;
-use hdfs_rebuild::{BlockPipeline, BlockPlan, Opening, RebuildSettings, WriteFault, open_pipeline};
+use hdfs_rebuild::{BlockPipeline, BlockPlan, Opening, RebuildSettings, open_pipeline};
 use hdfs_wire::WritePacket;
 use std::alloc::Global;
 
@@ -65,7 +65,7 @@ impl BlockWriter {
         plan: BlockPlan,
         settings: &RebuildSettings,
         sizes: BlockSizes,
-    ) -> Result<BlockWriter, WriteFault>
+    ) -> Result<BlockWriter, HdfsError>
         requires plan { IsToBegin plan settings.now sizes }
         requires allowed { C.allows (SetupOf (setup_of plan (name_of namenode.now))) }
         ensures stands { IfOk result (λ writer. Stands (C.shown cluster.new) writer) }
@@ -73,16 +73,16 @@ impl BlockWriter {
         ensures opened { IfOk result (λ writer. OpensLink (C.shown cluster.old)
             (setup_of plan (name_of namenode.now)) writer (C.shown cluster.new)) }
         ensures begins { IfOk result (λ writer. BeginsWhole (C.shown cluster.old) plan writer (C.shown cluster.new)) }
-        ensures err { IfErr result (λ fault. OpensNone (C.shown cluster.old)
-            (setup_of plan (name_of namenode.now)) fault (C.shown cluster.new)) }
+        ensures err { IfErr result (λ error. OpensNone (C.shown cluster.old)
+            (setup_of plan (name_of namenode.now)) error (C.shown cluster.new)) }
     {
         let client = namenode.client_name();
         let opening = Opening::first(&plan, settings.window);
         let (core, link) = match open_pipeline(alloc, cluster, &plan, opening, client) {
             Ok(opened) => opened,
-            Err(fault) => {
+            Err(error) => {
                 drop(plan);
-                return Err(fault);
+                return Err(error);
             }
         };
         let length = plan.block.b.num_bytes;
@@ -121,14 +121,14 @@ impl BlockWriter {
         &mut self,
         cluster: &mut C,
         namenode: &mut NamenodeProtocol,
-    ) -> Result<(), WriteFault>
+    ) -> Result<(), HdfsError>
         requires { MaySend C.allows C.may_answer namenode.old (C.shown cluster.old) self.old }
         ensures holds { OnOk result (Holds (C.shown cluster.new) self.new × (self.new.packet ≡ None)) }
         ensures full { OnOk result (StaysFull self.old self.new) }
         ensures wrote { OnOk result (Seen C.shown (through namenode.old cluster.old) cluster.new
             (λ old new. Wrote old self.old [] new self.new)) }
-        ensures err { IfErr result (λ fault. Seen C.shown (through namenode.old cluster.old) cluster.new
-            (λ old new. Fails old self.old fault new self.new)) }
+        ensures err { IfErr result (λ error. Seen C.shown (through namenode.old cluster.old) cluster.new
+            (λ old new. Fails old self.old error new self.new)) }
         ensures answered { OnOk result (GoesOnAnswered C.may_answer (name_of namenode.old) self.old self.new) }
         ensures client { SameClient namenode.old namenode.new }
     {
@@ -137,7 +137,7 @@ impl BlockWriter {
         };
         let Some(pipe) = self.pipe.take() else {
             drop(packet);
-            return Err(WriteFault::Failed);
+            return Err(HdfsError::Failed);
         };
         let pipe = self.push(cluster, namenode, pipe, packet)?;
         drop(self.pipe.replace(pipe));
@@ -150,14 +150,14 @@ impl BlockWriter {
         &mut self,
         cluster: &mut C,
         namenode: &mut NamenodeProtocol,
-    ) -> Result<(), WriteFault>
+    ) -> Result<(), HdfsError>
         requires may { MaySend C.allows C.may_answer namenode.old (C.shown cluster.old) self.old }
         requires full { SendsFull self.old }
         ensures stands { OnOk result (Stands (C.shown cluster.new) self.new) }
         ensures wrote { OnOk result (Seen C.shown (through namenode.old cluster.old) cluster.new
             (λ old new. Wrote old self.old [] new self.new)) }
-        ensures err { IfErr result (λ fault. Seen C.shown (through namenode.old cluster.old) cluster.new
-            (λ old new. Fails old self.old fault new self.new)) }
+        ensures err { IfErr result (λ error. Seen C.shown (through namenode.old cluster.old) cluster.new
+            (λ old new. Fails old self.old error new self.new)) }
         ensures answered { OnOk result (GoesOnAnswered C.may_answer (name_of namenode.old) self.old self.new) }
         ensures client { SameClient namenode.old namenode.new }
     {
@@ -174,7 +174,7 @@ impl BlockWriter {
         cluster: &mut C,
         namenode: &mut NamenodeProtocol,
         bytes: &[u8],
-    ) -> Result<usize, WriteFault>
+    ) -> Result<usize, HdfsError>
         requires may { IsServed C.allows C.may_answer namenode.old (C.shown cluster.old) self.old }
         requires open { IsSome self.old.pipe }
         requires room { (self.old.length + length bytes.now ≤ self.old.block_size) × (0 < length bytes.now) }
@@ -182,14 +182,14 @@ impl BlockWriter {
         ensures count { IfOk result (λ n. (0 < n) × (n ≤ length bytes.now)) }
         ensures wrote { IfOk result (λ n. Seen C.shown (through namenode.old cluster.old) cluster.new
             (λ old new. Wrote old self.old (take n bytes.now) new self.new)) }
-        ensures err { IfErr result (λ fault. Seen C.shown (through namenode.old cluster.old) cluster.new
-            (λ old new. Fails old self.old fault new self.new)) }
+        ensures err { IfErr result (λ error. Seen C.shown (through namenode.old cluster.old) cluster.new
+            (λ old new. Fails old self.old error new self.new)) }
         ensures answered { OnOk result (GoesOnAnswered C.may_answer (name_of namenode.old) self.old self.new) }
         ensures client { SameClient namenode.old namenode.new }
     {
         let Ok(count) = self.fill(bytes) else {
             self.fail(cluster);
-            return Err(WriteFault::NoMemory);
+            return Err(HdfsError::NoMemory);
         };
         self.flush_full(cluster, namenode)?;
         Ok(count)
@@ -201,15 +201,15 @@ impl BlockWriter {
         cluster: &mut C,
         namenode: &mut NamenodeProtocol,
         bytes: &[u8],
-    ) -> Result<(), WriteFault>
+    ) -> Result<(), HdfsError>
         requires may { IsServed C.allows C.may_answer namenode.old (C.shown cluster.old) self.old }
         requires open { IsSome self.old.pipe }
         requires room { self.old.length + length bytes.now ≤ self.old.block_size }
         ensures stands { OnOk result (Stands (C.shown cluster.new) self.new) }
         ensures wrote { OnOk result (Seen C.shown (through namenode.old cluster.old) cluster.new
             (λ old new. Wrote old self.old bytes.now new self.new)) }
-        ensures err { IfErr result (λ fault. Seen C.shown (through namenode.old cluster.old) cluster.new
-            (λ old new. Fails old self.old fault new self.new)) }
+        ensures err { IfErr result (λ error. Seen C.shown (through namenode.old cluster.old) cluster.new
+            (λ old new. Fails old self.old error new self.new)) }
         ensures answered { OnOk result (GoesOnAnswered C.may_answer (name_of namenode.old) self.old self.new) }
         ensures client { SameClient namenode.old namenode.new }
     {
@@ -231,14 +231,14 @@ impl BlockWriter {
         cluster: &mut C,
         namenode: &mut NamenodeProtocol,
         bytes: &[u8],
-    ) -> Result<usize, WriteFault>
+    ) -> Result<usize, HdfsError>
         requires { IsServed C.allows C.may_answer namenode.old (C.shown cluster.old) self.old }
         ensures stands { Stands (C.shown cluster.new) self.new }
         ensures count { IfOk result (λ n. n ≡ min (length bytes.now) (size_of self.old - length_of self.old)) }
-        ensures err { IfErr result (λ fault. Seen C.shown (through namenode.old cluster.old) cluster.new
-            (λ old new. Fails old self.old fault new self.new)) }
+        ensures err { IfErr result (λ error. Seen C.shown (through namenode.old cluster.old) cluster.new
+            (λ old new. Fails old self.old error new self.new)) }
         ensures failed { HasFailed self.old
-            → (result ≡ Err faults.Failed) × (self.new ≡ self.old) × (cluster.new ≡ cluster.old) }
+            → (result ≡ Err errors.Failed) × (self.new ≡ self.old) × (cluster.new ≡ cluster.old) }
 
         // Over a told picture these bytes are carried too, whatever datanodes fail, and nothing changes but the block.
         ensures wrote { IfOk result (λ n. Seen C.shown (through namenode.old cluster.old) cluster.new
@@ -247,7 +247,7 @@ impl BlockWriter {
         ensures client { SameClient namenode.old namenode.new }
     {
         if self.has_failed() {
-            return Err(WriteFault::Failed);
+            return Err(HdfsError::Failed);
         }
         let room = (self.block_size - self.length) as usize;
         let taken = bytes.len().min(room);
@@ -260,25 +260,25 @@ impl BlockWriter {
         &mut self,
         cluster: &mut C,
         namenode: &mut NamenodeProtocol,
-    ) -> Result<Block, WriteFault>
+    ) -> Result<Block, HdfsError>
         requires may { MaySend C.allows C.may_answer namenode.old (C.shown cluster.old) self.old }
         requires none { self.old.packet ≡ None }
         ensures closed { IfOk result (λ block. Seen C.shown (through namenode.old cluster.old) cluster.new
             (λ old new. Closes old self.old block new)) }
         ensures last { OnOk result (InEachView C.shown (through namenode.old cluster.old)
             (λ see. WaitsForLast (λ c. see (C.shown c)) C.ends cluster.old self.old cluster.new)) }
-        ensures err { IfErr result (λ fault. Seen C.shown (through namenode.old cluster.old) cluster.new
-            (λ old new. GaveUp old self.old fault new)) }
+        ensures err { IfErr result (λ error. Seen C.shown (through namenode.old cluster.old) cluster.new
+            (λ old new. GaveUp old self.old error new)) }
         ensures answered { IfOk result (ClosesAnswered C.may_answer (name_of namenode.old) self.old) }
         ensures client { SameClient namenode.old namenode.new }
     {
         let Ok(packet) = self.last_packet() else {
             self.fail(cluster);
-            return Err(WriteFault::NoMemory);
+            return Err(HdfsError::NoMemory);
         };
         let Some(pipe) = self.pipe.take() else {
             drop(packet);
-            return Err(WriteFault::Failed);
+            return Err(HdfsError::Failed);
         };
         let pipe = self.push(cluster, namenode, pipe, packet)?;
         let plan = self.finish(cluster, namenode, pipe)?;
@@ -293,7 +293,7 @@ impl BlockWriter {
         mut self,
         cluster: &mut C,
         namenode: &mut NamenodeProtocol,
-    ) -> Result<Block, WriteFault>
+    ) -> Result<Block, HdfsError>
         requires { IsServed C.allows C.may_answer namenode.old (C.shown cluster.old) self }
         ensures closed { IfOk result (λ block. Seen C.shown (through namenode.old cluster.old) cluster.new
             (λ old new. Closes old self block new)) }
@@ -301,9 +301,9 @@ impl BlockWriter {
         // Over a told picture the last packet of the block is an empty one that is marked so, and the datanodes have received it.
         ensures last { OnOk result (InEachView C.shown (through namenode.old cluster.old)
             (λ see. WaitsForLast (λ c. see (C.shown c)) C.ends cluster.old self cluster.new)) }
-        ensures err { IfErr result (λ fault. Seen C.shown (through namenode.old cluster.old) cluster.new
-            (λ old new. GaveUp old self fault new)) }
-        ensures failed { HasFailed self → (result ≡ Err faults.Failed) × (cluster.new ≡ cluster.old) }
+        ensures err { IfErr result (λ error. Seen C.shown (through namenode.old cluster.old) cluster.new
+            (λ old new. GaveUp old self error new)) }
+        ensures failed { HasFailed self → (result ≡ Err errors.Failed) × (cluster.new ≡ cluster.old) }
         ensures answered { IfOk result (ClosesAnswered C.may_answer (name_of namenode.old) self) }
         ensures client { SameClient namenode.old namenode.new }
     {
@@ -317,20 +317,20 @@ impl BlockWriter {
         &mut self,
         cluster: &mut C,
         namenode: &mut NamenodeProtocol,
-    ) -> Result<Block, WriteFault>
+    ) -> Result<Block, HdfsError>
         requires { IsServed C.allows C.may_answer namenode.old (C.shown cluster.old) self.old }
         ensures closed { IfOk result (λ block. Seen C.shown (through namenode.old cluster.old) cluster.new
             (λ old new. Closes old self.old block new)) }
         ensures last { OnOk result (InEachView C.shown (through namenode.old cluster.old)
             (λ see. WaitsForLast (λ c. see (C.shown c)) C.ends cluster.old self.old cluster.new)) }
-        ensures err { IfErr result (λ fault. Seen C.shown (through namenode.old cluster.old) cluster.new
-            (λ old new. GaveUp old self.old fault new)) }
-        ensures failed { HasFailed self.old → (result ≡ Err faults.Failed) × (cluster.new ≡ cluster.old) }
+        ensures err { IfErr result (λ error. Seen C.shown (through namenode.old cluster.old) cluster.new
+            (λ old new. GaveUp old self.old error new)) }
+        ensures failed { HasFailed self.old → (result ≡ Err errors.Failed) × (cluster.new ≡ cluster.old) }
         ensures answered { IfOk result (ClosesAnswered C.may_answer (name_of namenode.old) self.old) }
         ensures client { SameClient namenode.old namenode.new }
     {
         if self.pipe.is_none() {
-            return Err(WriteFault::Failed);
+            return Err(HdfsError::Failed);
         }
         self.flush(cluster, namenode)?;
         self.end(cluster, namenode)

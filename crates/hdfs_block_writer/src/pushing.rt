@@ -4,10 +4,10 @@ ghost use Rattle.std.specs.Prelude.{◌≡◌, ◌<◌, ◌≤◌, ◌+◌, ◌^
 ghost use Rattle.hdfs_block_writer.specs.Pushing.{bytes_in};
 
 use crate::block_writer::BlockWriter;
-use hdfs_cluster::Cluster;
+use hdfs_cluster::{Cluster, HdfsError, TransferFault};
 use hdfs_namenode::NamenodeProtocol;
 use hdfs_pipeline::{PipelineEnd, drive_end, drive_push};
-use hdfs_rebuild::{BlockPipeline, BlockPlan, Fallen, WriteFault, rebuild};
+use hdfs_rebuild::{BlockPipeline, BlockPlan, Fallen, rebuild};
 use hdfs_wire::{NoMemory, WritePacket};
 
 /// What came of driving a pipeline to its end.
@@ -65,14 +65,14 @@ impl BlockWriter {
         namenode: &mut NamenodeProtocol,
         pipe: BlockPipeline,
         unsent: u64,
-    ) -> Result<BlockPipeline, WriteFault>
+    ) -> Result<BlockPipeline, HdfsError>
         requires may { MayDrive C.allows C.may_answer namenode.old self.now.settings (C.shown cluster.old) pipe }
         requires ended { IsSome pipe.core.end × (pipe.core.end ≡ Some Done → ⊥) }
         requires few { (total pipe.core.pushed + unsent ≤ self.now.length) × (self.now.length < 2 ^ 63) }
         ensures ok { IfOk result (λ pipe'. Seen C.shown (through namenode.old cluster.old) cluster.new
             (λ old new. RebuildsEnded self.now.settings old pipe new pipe')) }
-        ensures err { IfErr result (λ fault. Seen C.shown (through namenode.old cluster.old) cluster.new
-            (λ old new. FallsEnded self.now.settings old pipe fault new)) }
+        ensures err { IfErr result (λ error. Seen C.shown (through namenode.old cluster.old) cluster.new
+            (λ old new. FallsEnded self.now.settings old pipe error new)) }
         ensures answered { IfOk result (λ pipe'.
             StaysAnswered C.may_answer (name_of namenode.old) pipe.plan pipe'.plan) }
         ensures client { SameClient namenode.old namenode.new }
@@ -97,12 +97,12 @@ impl BlockWriter {
             }
             Ok(PipelineEnd::Bad { seqno }) => {
                 drop(plan);
-                Err(WriteFault::BadAck { seqno })
+                Err(HdfsError::DataTransferError(TransferFault::BadAck { seqno }))
             }
             Ok(PipelineEnd::Success) => unreachable!(),
             Err(NoMemory) => {
                 drop(plan);
-                Err(WriteFault::NoMemory)
+                Err(HdfsError::NoMemory)
             }
         }
     }
@@ -114,14 +114,14 @@ impl BlockWriter {
         namenode: &mut NamenodeProtocol,
         mut pipe: BlockPipeline,
         packet: WritePacket,
-    ) -> Result<PushedOnce, WriteFault>
+    ) -> Result<PushedOnce, HdfsError>
         requires service { IsServiceOf (proxy_of namenode.old) (C.shown cluster.old) }
         requires allowed { LetsGoOn C.allows C.may_answer (name_of namenode.old) pipe.plan.src pipe.plan.block }
         requires can { CanPush self.now.settings (C.shown cluster.old) pipe self.now.length packet }
         ensures ok { IfOk result (λ pushed. Seen C.shown (through namenode.old cluster.old) cluster.new
             (λ old new. PushesOnce self.now.settings old pipe packet pushed new)) }
-        ensures err { IfErr result (λ fault. Seen C.shown (through namenode.old cluster.old) cluster.new
-            (λ old new. PushesNot self.now.settings old pipe packet fault new)) }
+        ensures err { IfErr result (λ error. Seen C.shown (through namenode.old cluster.old) cluster.new
+            (λ old new. PushesNot self.now.settings old pipe packet error new)) }
         ensures answered { IfOk result (λ pushed.
             StaysAnswered C.may_answer (name_of namenode.old) pipe.plan pushed.pipe.plan) }
         ensures client { SameClient namenode.old namenode.new }
@@ -138,7 +138,7 @@ impl BlockWriter {
             Err(NoMemory) => {
                 cluster.end_write(pipe.link);
                 drop(pipe);
-                Err(WriteFault::NoMemory)
+                Err(HdfsError::NoMemory)
             }
         }
     }
@@ -150,14 +150,14 @@ impl BlockWriter {
         namenode: &mut NamenodeProtocol,
         pipe: BlockPipeline,
         packet: WritePacket,
-    ) -> Result<BlockPipeline, WriteFault>
+    ) -> Result<BlockPipeline, HdfsError>
         requires service { IsServiceOf (proxy_of namenode.old) (C.shown cluster.old) }
         requires allowed { LetsGoOn C.allows C.may_answer (name_of namenode.old) pipe.plan.src pipe.plan.block }
         requires can { CanPush self.now.settings (C.shown cluster.old) pipe self.now.length packet }
         ensures ok { IfOk result (λ pipe'. Seen C.shown (through namenode.old cluster.old) cluster.new
             (λ old new. Pushes self.now.settings old pipe packet new pipe')) }
-        ensures err { IfErr result (λ fault. Seen C.shown (through namenode.old cluster.old) cluster.new
-            (λ old new. PushesNot self.now.settings old pipe packet fault new)) }
+        ensures err { IfErr result (λ error. Seen C.shown (through namenode.old cluster.old) cluster.new
+            (λ old new. PushesNot self.now.settings old pipe packet error new)) }
         ensures answered { IfOk result (λ pipe'.
             StaysAnswered C.may_answer (name_of namenode.old) pipe.plan pipe'.plan) }
         ensures client { SameClient namenode.old namenode.new }
@@ -182,7 +182,7 @@ impl BlockWriter {
         cluster: &mut C,
         namenode: &mut NamenodeProtocol,
         pipe: BlockPipeline,
-    ) -> Result<Settled, WriteFault>
+    ) -> Result<Settled, HdfsError>
         requires may { MayDrive C.allows C.may_answer namenode.old self.now.settings (C.shown cluster.old) pipe }
         requires ending { IsEnding pipe }
         requires few { (total pipe.core.pushed ≤ self.now.length) × (self.now.length < 2 ^ 63) }
@@ -190,8 +190,8 @@ impl BlockWriter {
             (λ old new. Settles self.now.settings old pipe settled new)) }
         ensures last { IfOk result (λ settled. InEachView C.shown (through namenode.old cluster.old)
             (λ see. ReceivesOnce (λ c. see (C.shown c)) C.ends cluster.old pipe settled cluster.new)) }
-        ensures err { IfErr result (λ fault. Seen C.shown (through namenode.old cluster.old) cluster.new
-            (λ old new. FallsFor self.now.settings old pipe [] fault new)) }
+        ensures err { IfErr result (λ error. Seen C.shown (through namenode.old cluster.old) cluster.new
+            (λ old new. FallsFor self.now.settings old pipe [] error new)) }
         ensures answered { IfOk result (λ settled.
             StaysAnswered C.may_answer (name_of namenode.old) pipe.plan (plan_in settled)) }
         ensures client { SameClient namenode.old namenode.new }
@@ -201,7 +201,7 @@ impl BlockWriter {
             Ok(PipelineEnd::Success) => Ok(Settled::Done(plan)),
             Ok(PipelineEnd::Bad { seqno }) => {
                 drop(plan);
-                Err(WriteFault::BadAck { seqno })
+                Err(HdfsError::DataTransferError(TransferFault::BadAck { seqno }))
             }
             Ok(PipelineEnd::Recover { failed, replay }) => {
                 // Once all packets are acknowledged none is to be sent again.
@@ -221,7 +221,7 @@ impl BlockWriter {
             }
             Err(NoMemory) => {
                 drop(plan);
-                Err(WriteFault::NoMemory)
+                Err(HdfsError::NoMemory)
             }
         }
     }
@@ -233,7 +233,7 @@ impl BlockWriter {
         cluster: &mut C,
         namenode: &mut NamenodeProtocol,
         pipe: BlockPipeline,
-    ) -> Result<BlockPlan, WriteFault>
+    ) -> Result<BlockPlan, HdfsError>
         requires may { MayDrive C.allows C.may_answer namenode.old self.now.settings (C.shown cluster.old) pipe }
         requires ending { IsEnding pipe }
         requires few { (total pipe.core.pushed ≤ self.now.length) × (self.now.length < 2 ^ 63) }
@@ -241,8 +241,8 @@ impl BlockWriter {
             (λ old new. Finishes self.now.settings old pipe new plan)) }
         ensures last { OnOk result (InEachView C.shown (through namenode.old cluster.old)
             (λ see. ReceivesAll (λ c. see (C.shown c)) C.ends cluster.old pipe cluster.new)) }
-        ensures err { IfErr result (λ fault. Seen C.shown (through namenode.old cluster.old) cluster.new
-            (λ old new. FinishesNot self.now.settings old pipe fault new)) }
+        ensures err { IfErr result (λ error. Seen C.shown (through namenode.old cluster.old) cluster.new
+            (λ old new. FinishesNot self.now.settings old pipe error new)) }
         ensures answered { IfOk result (StaysAnswered C.may_answer (name_of namenode.old) pipe.plan) }
         ensures client { SameClient namenode.old namenode.new }
     {

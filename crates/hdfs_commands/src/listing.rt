@@ -6,7 +6,7 @@ ghost use Rattle.hdfs_names.specs.Paths.{absolute, is_path as is_path_text};
 
 use crate::session::Session;
 use hdfs_cluster::{Cluster, HdfsError};
-use hdfs_listing::list_path;
+use hdfs_listing::{ListTerms, list_path};
 use hdfs_model::Reply;
 use hdfs_wire::{List, Text};
 
@@ -34,15 +34,8 @@ impl Session {
             → Executes C.may_answer (commands.List name.now recursive limit) (C.shown cluster.old) self.old
             (C.shown cluster.new) (after self.new result) result }
     {
-        let entries = list_path(
-            self.alloc,
-            cluster,
-            &mut self.namenode,
-            name,
-            path,
-            recursive,
-            limit,
-        )?;
+        let terms = ListTerms { recursive, limit };
+        let entries = list_path(self.alloc, cluster, &mut self.namenode, name, path, terms)?;
         Ok(Reply::Listed {
             entries: List::from_vec(entries),
         })

@@ -300,7 +300,7 @@ impl Cluster for FakeCluster {
                 return Err(LinkFault::Refused);
             }
         };
-        if !fits || self.writes.contains(self.reads.vacant_key()) {
+        if !fits {
             return Err(LinkFault::NoMemory);
         }
         let told = opened(self.alloc, ask, self.failures)?;

@@ -8,7 +8,6 @@ use Rattle.hdfs_cluster.specs.Shown.{Shown}
 use Rattle.hdfs_cluster.proofs.Frames.{later_refl}
 use Rattle.hdfs_cluster.proofs.Times.{fails_later, fails_since}
 use Rattle.hdfs_namenode.specs.Views.{View, Whole, OfService, see, Seen, view_of}
-use Rattle.hdfs_rebuild.specs.declared.block_plan.WriteFault.{WriteFault}
 use Rattle.hdfs_block_writer.specs.BlockWriters.{Stands as StandsItself}
 use Rattle.hdfs_block_writer.specs.declared.block_writer.BlockWriter.{BlockWriter}
 use Rattle.hdfs_namenode.proofs.Seeing.{later_seen, view_same}
@@ -98,7 +97,7 @@ stands_shown view s {writer} h = record {
 }
 
 -- a first pipeline wasn't set up
-pub not_set_up_seen : (view : View) {client : List ℕ} {created : Bool} {located : LocatedBlock} {s t : Shown} {fault : WriteFault}
+pub not_set_up_seen : (view : View) {client : List ℕ} {created : Bool} {located : LocatedBlock} {s t : Shown} {fault : HdfsError}
     → NotSetUp client created located s fault t → NotSetUp client created located (see view s) fault (see view t)
 not_set_up_seen view {client} {created} {located} {s} {t} {fault} h = record {
   setup = h.setup;

@@ -20,7 +20,6 @@ use Rattle.hdfs_cluster.proofs.Frames.{later_refl}
 use Rattle.hdfs_rebuild.specs.declared.block_plan.BlockPipeline.{BlockPipeline}
 use Rattle.hdfs_rebuild.specs.declared.block_plan.BlockPlan.{BlockPlan}
 use Rattle.hdfs_rebuild.specs.declared.block_plan.RebuildSettings.{RebuildSettings}
-use Rattle.hdfs_rebuild.specs.declared.block_plan.WriteFault.{WriteFault}
 use Rattle.hdfs_block_writer.specs.declared.block_writer.BlockWriter.{BlockWriter}
 use Rattle.hdfs_block_writer.specs.BlockWriters.{length_of, size_of, link_of as block_link, link_in, Stands as StandsItself}
 use Rattle.hdfs_block_writer.specs.OpenPipelines.{KeepsBlock}
@@ -28,7 +27,7 @@ use Rattle.hdfs_block_writer.specs.Written.{Closes, GaveUp, IsCarrying, OpensNon
 use Rattle.hdfs_block_writer.proofs.Wrote.{pipe_is}
 use Rattle.hdfs_file_writer.specs.declared.file_writer.FileWriter.{FileWriter}
 use Rattle.hdfs_file_writer.specs.declared.sizes.WriteSizes.{WriteSizes}
-use Rattle.hdfs_file_writer.specs.Faults.{error_of, is_of_setup}
+use Rattle.hdfs_file_writer.specs.Faults.{is_of_setup}
 use Rattle.hdfs_file_writer.specs.Tails.{IsFull}
 use Rattle.hdfs_file_writer.specs.Writers.{AreLimited, ArePackets, AreSizes, plan_of, link_of, link_by, tail_by, tail_of, Keeps, Stands, IsBetweenBlocks, HasRoom, BlockStands, IsPlanOf, OnlyOwnLink, Wrote, Adds, FailsOtherwise, rebuilds_by}
 use Rattle.hdfs_namenode.specs.Relaying.{Came}
@@ -94,7 +93,7 @@ module _ (a b : Shown) (sound : Shows IsSound a) (sound' : Shows IsSound b) (w :
 
   -- its block was given up
   pub gave_up_fails : IsSome (block_link block) → BlockStands a w.path w.sizes block
-      → (fault : WriteFault) → GaveUp a block fault b → FailsOtherwise a w (error_of fault) b
+      → (fault : HdfsError) → GaveUp a block fault b → FailsOtherwise a w fault b
   gave_up_fails some stands fault gave =
       let pipe = has_pipe block some in
       let gives = gave pipe.0 pipe.1 in
@@ -216,14 +215,14 @@ module _ (m b : Shown) (w : FileWriter) (found : LocatedBlock) (none : w.going �
   -- It isn't set up, behind calls of a writer from which on first pipelines couldn't be.
   module _ (start : Shown) (x : FileWriter) (wrote : Wrote start x [] m w) (setup : Setup) where
     not_opened_fails : (fault : LinkFault) → (is_of_setup (fault_of fault) ≡ true → SetupsFailed x.sizes.setup_limit start.counts b.counts)
-        → WriteNotOpened m setup fault b → FailsOtherwise start x (error_of (fault_of fault)) b
+        → WriteNotOpened m setup fault b → FailsOtherwise start x (fault_of fault) b
     not_opened_fails fault setups not_opened = record {
       fails = record {
         own =
             own_link_trans start m b (link_of x) (link_of w) None wrote.own
             (idle_own m b w None none (own_link_unopened m b setup fault None not_opened));
         tells = unopened_tells x.sizes.setup_limit start b fault setups;
-        limit = limit_behind b (error_of (fault_of fault)) wrote (λ from n is fails. absurd (unopened_no_limit fault n is));
+        limit = limit_behind b (fault_of fault) wrote (λ from n is fails. absurd (unopened_no_limit fault n is));
         refused = λ refusal. absurd (unopened_apart fault refusal);
         touches =
             touches_behind start m b x w [] wrote.keeps.path wrote.carries (unopened_touches m b w found none reopened setup fault not_opened);
@@ -232,14 +231,14 @@ module _ (m b : Shown) (w : FileWriter) (found : LocatedBlock) (none : w.going �
       apart = unopened_apart fault;
     }
 
-    pub unopened_fails : (fault : WriteFault) → (is_of_setup fault ≡ true → SetupsFailed x.sizes.setup_limit start.counts b.counts)
-        → OpensNone m setup fault b → FailsOtherwise start x (error_of fault) b
+    pub unopened_fails : (fault : HdfsError) → (is_of_setup fault ≡ true → SetupsFailed x.sizes.setup_limit start.counts b.counts)
+        → OpensNone m setup fault b → FailsOtherwise start x fault b
     unopened_fails fault setups (inl (memory, same)) =
-        subst (λ (f : WriteFault). FailsOtherwise start x (error_of f) b) (sym memory)
+        subst (λ (f : HdfsError). FailsOtherwise start x f b) (sym memory)
         (subst (λ (s : Shown). FailsOtherwise start x errors.NoMemory s) (sym same)
         (fails_after start m m x w [] errors.NoMemory wrote (starved_fails m w (ap link_by none))))
     unopened_fails fault setups (inr (why, is, not_opened)) =
-        subst (λ (f : WriteFault). FailsOtherwise start x (error_of f) b) (sym is)
+        subst (λ (f : HdfsError). FailsOtherwise start x f b) (sym is)
         (not_opened_fails why (λ of. setups (ap is_of_setup is ∙ of)) not_opened)
 
 -- a block that isn't gone on with is done

@@ -27,7 +27,6 @@ use Rattle.hdfs_block_reader.specs.Carrying.{HoldsWhole}
 use Rattle.hdfs_rebuild.specs.declared.block_plan.BlockPipeline.{BlockPipeline}
 use Rattle.hdfs_rebuild.specs.declared.block_plan.BlockPlan.{BlockPlan}
 use Rattle.hdfs_rebuild.specs.declared.block_plan.RebuildSettings.{RebuildSettings}
-use Rattle.hdfs_rebuild.specs.declared.block_plan.WriteFault.{WriteFault}
 use Rattle.hdfs_rebuild.proofs.Stepping.{only_block_of-only}
 use Rattle.hdfs_block_writer.specs.declared.block_writer.BlockWriter.{BlockWriter}
 use Rattle.hdfs_block_writer.specs.BlockWriters.{HasFailed, length_of}
@@ -37,7 +36,7 @@ use Rattle.hdfs_block_writer.proofs.Wrote.{pipe_is}
 use Rattle.hdfs_file_writer.specs.declared.file_writer.FileWriter.{FileWriter}
 use Rattle.hdfs_file_writer.specs.declared.sizes.WriteSizes.{WriteSizes}
 use Rattle.hdfs_file_writer.specs.Failing.{TellsWrite, CauseOfWrite, IsNoRefusal}
-use Rattle.hdfs_file_writer.specs.Faults.{error_of, is_of_setup}
+use Rattle.hdfs_file_writer.specs.Faults.{is_of_setup}
 use Rattle.hdfs_file_writer.specs.OnlyFiles.{OnlyFile, SameFile}
 use Rattle.hdfs_file_writer.specs.Tails.{Tail, Finished, Reopened, Going, tail_length, IsFull, FillsBlocks, StoresFront, TailCarries, FileCarries}
 use Rattle.hdfs_file_writer.specs.WholeBlocks.{StaysWhole}
@@ -70,20 +69,20 @@ carries_nothing a writer p bytes told c = (
 
 -- what a fault of a set-up says has failed, where first pipelines couldn't be set up
 pub unopened_cause : (sizes : WriteSizes) (path : List ℕ) (a b : Shown) (fault : LinkFault)
-    → (is_of_setup (fault_of fault) ≡ true → SetupsFailed sizes.setup_limit a.counts b.counts) → CauseOfWrite sizes path a b (error_of (fault_of fault))
+    → (is_of_setup (fault_of fault) ≡ true → SetupsFailed sizes.setup_limit a.counts b.counts) → CauseOfWrite sizes path a b (fault_of fault)
 unopened_cause sizes path a b link_faults.NoMemory setups = tt
 unopened_cause sizes path a b link_faults.Broken setups = setups refl
 unopened_cause sizes path a b link_faults.Refused setups = setups refl
 
 -- as it is told
 pub unopened_tells : (limit : ℕ) (a b : Shown) (fault : LinkFault)
-    → (is_of_setup (fault_of fault) ≡ true → SetupsFailed limit a.counts b.counts) → TellsWrite a b (error_of (fault_of fault))
+    → (is_of_setup (fault_of fault) ≡ true → SetupsFailed limit a.counts b.counts) → TellsWrite a b (fault_of fault)
 unopened_tells limit a b link_faults.NoMemory setups = (tt, (tt, tt))
 unopened_tells limit a b link_faults.Broken setups = (tt, (tt, setup_fails limit a b (setups refl)))
 unopened_tells limit a b link_faults.Refused setups = (tt, (tt, setup_fails limit a b (setups refl)))
 
 -- and none is for encryption
-pub unopened_apart : (fault : LinkFault) → IsNoRefusal (error_of (fault_of fault))
+pub unopened_apart : (fault : LinkFault) → IsNoRefusal (fault_of fault)
 unopened_apart link_faults.NoMemory refusal = refusal
 unopened_apart link_faults.Broken refusal = refusal
 unopened_apart link_faults.Refused refusal = refusal
@@ -132,7 +131,7 @@ module _ (a b : Shown) (sound : Shows IsSound a) (sound' : Shows IsSound b) (wri
       )
 
   -- it was given up
-  pub gave_up_touches : (fault : WriteFault) → GaveUp a block fault b → TouchesFile a writer b
+  pub gave_up_touches : (fault : HdfsError) → GaveUp a block fault b → TouchesFile a writer b
   gave_up_touches fault gave p bytes told c =
       let c' = as_going p bytes c in
       let own = c'.carries.1 in
@@ -140,8 +139,8 @@ module _ (a b : Shown) (sound : Shows IsSound a) (sound' : Shows IsSound b) (wri
       (only.0, only.1, (touches_own p (sound p told) writer.path block bytes c' only.0 (sound' only.0 only.1) only.2).0)
 
   -- and for its cause
-  pub gave_up_cause : BlockStands a writer.path writer.sizes block → (fault : WriteFault) → GaveUp a block fault b → (p : Picture) (bytes : List ℕ)
-      → a.picture ≡ Some p → FileCarries p writer.path (tail_of writer) bytes → CauseOfWrite writer.sizes writer.path a b (error_of fault)
+  pub gave_up_cause : BlockStands a writer.path writer.sizes block → (fault : HdfsError) → GaveUp a block fault b → (p : Picture) (bytes : List ℕ)
+      → a.picture ≡ Some p → FileCarries p writer.path (tail_of writer) bytes → CauseOfWrite writer.sizes writer.path a b fault
   gave_up_cause stands fault gave p bytes told c =
       let c' = as_going p bytes c in
       let own = c'.carries.1 in

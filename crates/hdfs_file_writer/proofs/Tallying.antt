@@ -15,14 +15,11 @@ use Rattle.hdfs_cluster.proofs.Times.{fails_enough, fails_join, fails_later, fai
 use Rattle.hdfs_rebuild.specs.declared.block_plan.BlockPipeline.{BlockPipeline}
 use Rattle.hdfs_rebuild.specs.declared.block_plan.BlockPlan.{BlockPlan}
 use Rattle.hdfs_rebuild.specs.declared.block_plan.RebuildSettings.{RebuildSettings}
-use Rattle.hdfs_rebuild.specs.declared.block_plan.WriteFault.{WriteFault}
-use Rattle.hdfs_rebuild.specs.declared.block_plan.WriteFault.TheVariants as faults
 use Rattle.hdfs_block_writer.specs.declared.block_writer.BlockWriter.{BlockWriter}
 use Rattle.hdfs_block_writer.specs.BlockWriters.{rebuilds_in, Stands as StandsItself}
 use Rattle.hdfs_block_writer.specs.OpenPipelines.{HasCause, IsSteady}
 use Rattle.hdfs_block_writer.specs.Written.{GaveUp, IsCarrying, IsNew, Wrote as BlockWrote, fault_of}
 use Rattle.hdfs_file_writer.specs.declared.file_writer.FileWriter.{FileWriter}
-use Rattle.hdfs_file_writer.specs.Faults.{error_of}
 use Rattle.hdfs_file_writer.specs.Writers.{EndsTally, Tallies, Wrote, rebuilds_by, rebuilds_of}
 
 -- nothing was done
@@ -76,24 +73,23 @@ pub no_limit : {error : HdfsError} {n : ℕ} → IsOfAsk error → error ≡ err
 no_limit of is = subst IsOfAsk is of
 
 -- and none of a set-up
-pub unopened_no_limit : (fault : LinkFault) (n : ℕ) → error_of (fault_of fault) ≡ errors.DataTransferError (transfer.RebuildLimit n) → ⊥
+pub unopened_no_limit : (fault : LinkFault) (n : ℕ) → fault_of fault ≡ errors.DataTransferError (transfer.RebuildLimit n) → ⊥
 unopened_no_limit link_faults.NoMemory n is = cc is
 unopened_no_limit link_faults.Broken n is = cc is
 unopened_no_limit link_faults.Refused n is = cc is
 
 -- a block was given up by a fault that is the limit
-limit_fault : (start a b : Shown) (settings : RebuildSettings) (plan : BlockPlan) (W : Picture → Type 0) (n : ℕ) (fault : WriteFault)
-    → plan.rebuilds ≤ settings.rebuild_limit → HasCause settings plan W a fault b → error_of fault ≡ errors.DataTransferError (transfer.RebuildLimit n)
+limit_fault : (start a b : Shown) (settings : RebuildSettings) (plan : BlockPlan) (W : Picture → Type 0) (n : ℕ) (fault : HdfsError)
+    → plan.rebuilds ≤ settings.rebuild_limit → HasCause settings plan W a fault b → fault ≡ errors.DataTransferError (transfer.RebuildLimit n)
     → NodesFailTimes plan.rebuilds start a → NodesFailTimes (suc n) start b
-limit_fault start a b settings plan W n (faults.RebuildLimit rebuilds) within cause is fails =
+limit_fault start a b settings plan W n (errors.DataTransferError (transfer.RebuildLimit rebuilds)) within cause is fails =
     let same : rebuilds ≡ n = cc is in
     fails_enough (suc n) plan.rebuilds (suc (settings.rebuild_limit - plan.rebuilds)) start a b fails cause.1 (omega (arith, same, cause.0, within))
-limit_fault start a b settings plan W n (faults.Namenode error) within cause is fails = absurd (no_limit cause.1.0 is)
-limit_fault start a b settings plan W n fault within cause is fails = absurd (cc is)
+limit_fault start a b settings plan W n error within cause is fails = absurd (cc is)
 
 -- the block that is being written was given up
-pub limit_given_up : (a b : Shown) (w : FileWriter) {block : BlockWriter} {pipe : BlockPipeline} (fault : WriteFault) → w.going ≡ Some block
-    → block.pipe ≡ Some pipe → StandsItself a block → GaveUp a block fault b → EndsTally a w (error_of fault) b
+pub limit_given_up : (a b : Shown) (w : FileWriter) {block : BlockWriter} {pipe : BlockPipeline} (fault : HdfsError) → w.going ≡ Some block
+    → block.pipe ≡ Some pipe → StandsItself a block → GaveUp a block fault b → EndsTally a w fault b
 limit_given_up a b w {block} {pipe} fault going is stands gave start n limit fails =
     limit_fault start a b block.settings pipe.plan (IsCarrying block) n fault (stands pipe is).1.standing.rebuilds (gave pipe is).cause limit
     (subst (λ (times : ℕ). NodesFailTimes times start a) (rebuilds_is w going is) fails)

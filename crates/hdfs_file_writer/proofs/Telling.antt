@@ -1,6 +1,7 @@
--- What an ask of a namenode comes to, where a writer knows the file; what the faults of a writer of a block and of an ask tell for a writer
+-- What an ask of a namenode comes to, where a writer knows the file; what the errors of a writer of a block and of an ask tell for a writer
 -- of a file; and their causes.
 use Rattle.std.proofs.Common.{◌≡◌, ◌⊎◌, inl, inr, ℕ, ◌-◌, false, not, List, [], ◌∷◌, ◌++◌, Some, subst, true, Option}
+use Rattle.hdfs_cluster.specs.declared.errors.TransferFault.TheVariants as transfer
 use Rattle.hdfs_cluster.specs.declared.errors.HdfsError.{HdfsError}
 use Rattle.hdfs_cluster.specs.declared.errors.HdfsError.TheVariants as errors
 use Rattle.hdfs_cluster.specs.declared.errors.IoFault.TheVariants as io_faults
@@ -16,14 +17,11 @@ use Rattle.hdfs_names.specs.Replacements.{ShouldReplace}
 use Rattle.hdfs_namenode.specs.Relaying.{TellsAsk, RelaysTold}
 use Rattle.hdfs_rebuild.specs.declared.block_plan.BlockPlan.{BlockPlan}
 use Rattle.hdfs_rebuild.specs.declared.block_plan.RebuildSettings.{RebuildSettings}
-use Rattle.hdfs_rebuild.specs.declared.block_plan.WriteFault.{WriteFault}
-use Rattle.hdfs_rebuild.specs.declared.block_plan.WriteFault.TheVariants as faults
 use Rattle.hdfs_rebuild.specs.Between.{HasLastError}
 use Rattle.hdfs_block_writer.specs.OpenPipelines.{AllListedFail, HasCause, ListedFails, MayBeDue, NamenodeFails}
 use Rattle.hdfs_cluster.proofs.Times.{some_fails}
 use Rattle.hdfs_file_writer.specs.declared.sizes.WriteSizes.{WriteSizes}
 use Rattle.hdfs_file_writer.specs.Failing.{TellsWrite, CauseOfWrite, IsNoRefusal, IsOfWrite}
-use Rattle.hdfs_file_writer.specs.Faults.{error_of}
 use Rattle.std.specs.Prelude.{Ok, Err}
 use Rattle.hdfs_cluster.specs.declared.asks.Answer.TheVariants as answers
 use Rattle.hdfs_cluster.specs.declared.asks.Ask.{Ask}
@@ -65,23 +63,22 @@ asked_cause sizes path a b c (errors.FatalRPCError class message) tells rose = t
 asked_cause sizes path a b c error tells rose = absurd tells.0
 
 -- what a fault tells by its cause
-pub tells_fault : (a b : Shown) (settings : RebuildSettings) (plan : BlockPlan) (W : Picture → Type 0) (fault : WriteFault)
-    → HasCause settings plan W a fault b → TellsWrite a b (error_of fault)
-tells_fault a b settings plan W faults.NoMemory cause = (tt, (tt, tt))
-tells_fault a b settings plan W faults.Failed cause = absurd cause
-tells_fault a b settings plan W faults.Link cause = (tt, (tt, inl cause.1))
-tells_fault a b settings plan W faults.Setup cause = (tt, (tt, inl cause.1))
-tells_fault a b settings plan W (faults.BadAck seqno) cause = (tt, (tt, cause))
-tells_fault a b settings plan W faults.AllNodes cause = (tt, (tt, cause.0))
-tells_fault a b settings plan W faults.NoReplacement cause = (tt, (tt, cause.1))
-tells_fault a b settings plan W (faults.RebuildLimit rebuilds) cause = (tt, (tt, some_fails (settings.rebuild_limit - plan.rebuilds) a b cause.1))
-tells_fault a b settings plan W (faults.Namenode error) cause = tells_asked a b error cause.1
+pub tells_fault : (a b : Shown) (settings : RebuildSettings) (plan : BlockPlan) (W : Picture → Type 0) (fault : HdfsError)
+    → HasCause settings plan W a fault b → TellsWrite a b fault
+tells_fault a b settings plan W errors.NoMemory cause = (tt, (tt, tt))
+tells_fault a b settings plan W (errors.IOError io_faults.Link) cause = (tt, (tt, inl cause.1))
+tells_fault a b settings plan W (errors.DataTransferError transfer.Setup) cause = (tt, (tt, inl cause.1))
+tells_fault a b settings plan W (errors.DataTransferError (transfer.BadAck seqno)) cause = (tt, (tt, cause))
+tells_fault a b settings plan W (errors.DataTransferError transfer.AllNodes) cause = (tt, (tt, cause.0))
+tells_fault a b settings plan W (errors.DataTransferError transfer.NoReplacement) cause = (tt, (tt, cause.1))
+tells_fault a b settings plan W (errors.DataTransferError (transfer.RebuildLimit rebuilds)) cause = (tt, (tt, some_fails (settings.rebuild_limit - plan.rebuilds) a b cause.1))
+tells_fault a b settings plan W error cause = tells_asked a b error cause.0
 
 -- and none is for encryption
-pub apart_fault : (a b : Shown) (settings : RebuildSettings) (plan : BlockPlan) (W : Picture → Type 0) (fault : WriteFault)
-    → HasCause settings plan W a fault b → IsNoRefusal (error_of fault)
-apart_fault a b settings plan W (faults.Namenode error) cause = apart_asked error cause.1.0
-apart_fault a b settings plan W fault cause = λ refusal. refusal
+pub apart_fault : (a b : Shown) (settings : RebuildSettings) (plan : BlockPlan) (W : Picture → Type 0) (fault : HdfsError)
+    → HasCause settings plan W a fault b → IsNoRefusal fault
+apart_fault a b settings plan W (errors.UnsupportedFeature feature) cause = absurd cause.0.0
+apart_fault a b settings plan W error cause = λ refusal. refusal
 
 -- a datanode more that may be due is one that the policy adds to a file's replicas
 may_replace : (sizes : WriteSizes) (plan : BlockPlan) → plan.replication ≡ sizes.replication → MayBeDue sizes.rebuilding plan
@@ -127,18 +124,17 @@ module _ (a b : Shown) (path : List ℕ) (file : FileEntry) (front : List ℕ) (
   help_failed (inr namenode) = inr (namenode.0 p told w)
 
   -- it was for this cause
-  pub fault_cause : (sizes : WriteSizes) (fault : WriteFault) → plan.replication ≡ sizes.replication → HasCause sizes.rebuilding plan W a fault b
-      → CauseOfWrite sizes path a b (error_of fault)
-  fault_cause sizes faults.NoMemory same cause = tt
-  fault_cause sizes faults.Failed same cause = tt
-  fault_cause sizes faults.Link same cause = inl cause.1
-  fault_cause sizes faults.Setup same cause = inl cause.1
-  fault_cause sizes (faults.BadAck seqno) same cause = tt
-  fault_cause sizes faults.AllNodes same cause = all_failed cause.1
-  fault_cause sizes faults.NoReplacement same cause = (cause.0, help_failed cause.2, listed_failed cause.3, may_replace sizes plan same cause.4)
-  fault_cause sizes (faults.RebuildLimit rebuilds) same cause = (cause.0, listed_failed cause.2)
-  fault_cause sizes (faults.Namenode error) same cause =
-      asked_cause sizes path a a b error cause.1 (λ some. cause.3 p told w)
+  pub fault_cause : (sizes : WriteSizes) (fault : HdfsError) → plan.replication ≡ sizes.replication → HasCause sizes.rebuilding plan W a fault b
+      → CauseOfWrite sizes path a b fault
+  fault_cause sizes errors.NoMemory same cause = tt
+  fault_cause sizes (errors.IOError io_faults.Link) same cause = inl cause.1
+  fault_cause sizes (errors.DataTransferError transfer.Setup) same cause = inl cause.1
+  fault_cause sizes (errors.DataTransferError (transfer.BadAck seqno)) same cause = tt
+  fault_cause sizes (errors.DataTransferError transfer.AllNodes) same cause = all_failed cause.1
+  fault_cause sizes (errors.DataTransferError transfer.NoReplacement) same cause = (cause.0, help_failed cause.2, listed_failed cause.3, may_replace sizes plan same cause.4)
+  fault_cause sizes (errors.DataTransferError (transfer.RebuildLimit rebuilds)) same cause = (cause.0, listed_failed cause.2)
+  fault_cause sizes error same cause =
+      asked_cause sizes path a a b error cause.0 (λ some. cause.2 p told w)
 
 same_file_at : (p : Picture) (path : List ℕ) (a b : FileEntry) → IsFileAt p path a → IsFileAt p path b → a ≡ b
 same_file_at p path a b one two = cc (one, two)

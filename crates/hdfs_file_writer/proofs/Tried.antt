@@ -31,12 +31,11 @@ use Rattle.hdfs_cluster.proofs.Failures.{nodes_until}
 use Rattle.hdfs_cluster.proofs.Frames.{later_refl, never_fall_refl, never_fall_trans, rose_since, told_after}
 use Rattle.hdfs_namenode.specs.Relaying.{Came, RelaysTold}
 use Rattle.hdfs_namenode.proofs.Relayed.{relayed_done, relayed_rose, relayed_row}
-use Rattle.hdfs_rebuild.specs.declared.block_plan.WriteFault.{WriteFault}
 use Rattle.hdfs_rebuild.specs.Opening.{OpensNone, fault_of}
 use Rattle.hdfs_file_writer.specs.declared.file_writer.FileWriter.{FileWriter}
 use Rattle.hdfs_file_writer.specs.declared.new_block.Candidate.{Candidate}
 use Rattle.hdfs_file_writer.specs.declared.new_block.Tries.{Tries}
-use Rattle.hdfs_file_writer.specs.Faults.{error_of, is_of_setup}
+use Rattle.hdfs_file_writer.specs.Faults.{is_of_setup}
 use Rattle.hdfs_file_writer.specs.OnlyFiles.{OnlyFile}
 use Rattle.hdfs_file_writer.specs.Tails.{FileCarries}
 use Rattle.hdfs_file_writer.specs.Tries.{EndsTries, GivesUpNot, HasTried, HaveFailed, IsCandidate, LeavesCandidate, NotSetUp, TriesOn, giving_up}
@@ -66,7 +65,7 @@ pub links_failed : (client : List ℕ) (located : LocatedBlock) (setup : Setup) 
 links_failed client located setup a b first failed = subst (λ (stage : Stage). SetupFailedAt stage setup.locs a b) first.stage failed
 
 -- a set-up has failed whose fault says so
-pub setup_failed : (setup : Setup) (a b : Shown) (fault : WriteFault) → OpensNone a setup fault b → is_of_setup fault ≡ true
+pub setup_failed : (setup : Setup) (a b : Shown) (fault : HdfsError) → OpensNone a setup fault b → is_of_setup fault ≡ true
     → SetupFailed setup a.counts b.counts × NeverFall a.counts b.counts
 setup_failed setup a b fault (inl (memory, same)) of = absurd (false≢true (sym (ap is_of_setup memory) ∙ of))
 setup_failed setup a b fault (inr (why, is, not)) of = (
@@ -75,7 +74,7 @@ setup_failed setup a b fault (inr (why, is, not)) of = (
 )
 
 -- there was one, and it wasn't set up
-not_set_up : (setup : Setup) (a b : Shown) (fault : WriteFault) → OpensNone a setup fault b → is_of_setup fault ≡ true
+not_set_up : (setup : Setup) (a b : Shown) (fault : HdfsError) → OpensNone a setup fault b → is_of_setup fault ≡ true
     → (why : LinkFault) × WriteNotOpened a setup why b
 not_set_up setup a b fault (inl (memory, same)) of = absurd (false≢true (sym (ap is_of_setup memory) ∙ of))
 not_set_up setup a b fault (inr (why, is, not)) of = (why, not)
@@ -244,7 +243,7 @@ module _ (a m b : Shown) (sound : Shows IsSound a) (sound' : Shows IsSound b) (w
 
 -- A try of a new block that has failed.
 module _ (a m b c : Shown) (sound : Shows IsSound a) (sound' : Shows IsSound b) (w : FileWriter) (between : IsBetweenBlocks w) (client : List ℕ)
-    (excluded : List DatanodeInfo) (found : LocatedBlock) (adds : Adds client excluded a w found m) (fault : WriteFault)
+    (excluded : List DatanodeInfo) (found : LocatedBlock) (adds : Adds client excluded a w found m) (fault : HdfsError)
     (not : NotSetUp client true found m fault b) (tries : Tries) (candidate : Candidate) (kept : IsCandidate found candidate) where
   -- one more has failed than those so far
   more_failed : (start : Shown) → HasTried start w tries a → is_of_setup fault ≡ true → NeverFall b.counts c.counts
@@ -285,7 +284,7 @@ module _ (a m b c : Shown) (sound : Shows IsSound a) (sound' : Shows IsSound b) 
       → FailsOtherwise start w error c
   tries_end error (inl (is, last, same)) start tried =
       subst (λ (e : HdfsError). FailsOtherwise start w e c) (sym is)
-      (subst (λ (s : Shown). FailsOtherwise start w (error_of fault) s) (sym same)
+      (subst (λ (s : Shown). FailsOtherwise start w fault s) (sym same)
       (unopened_fails m b (record w { reopened = Some found }) found between.none refl start w
       (wrote_trans start a m w w (record w { reopened = Some found }) [] [] tried.wrote adds.wrote) not.setup fault
       (λ of. all_failed of (last of)) not.none))
@@ -312,7 +311,7 @@ added_starves a m w between client excluded found adds tries start tried =
 
 -- a block that is to be gone on with wasn't opened: the links have failed
 pub reopened_fails : (s t : Shown) (w : FileWriter) (found : LocatedBlock) → w.going ≡ None → w.reopened ≡ Some found → (client : List ℕ)
-    (fault : WriteFault) → NotSetUp client false found s fault t → FailsOtherwise s w (error_of fault) t
+    (fault : HdfsError) → NotSetUp client false found s fault t → FailsOtherwise s w fault t
 reopened_fails s t w found none reopened client fault not =
     unopened_fails s t w found none reopened s w (wrote_nothing s w) not.setup fault
     (λ of. inl (links_failed client found not.setup s.counts t.counts not.first (setup_failed not.setup s t fault not.none of).0)) not.none
@@ -334,7 +333,7 @@ none_first may_answer client path file_id nodes none =
     subst (AreFirst may_answer client path file_id) (sym none) (λ k d lt. absurd (omega (arith, lt)))
 
 -- time went on while no pipeline was set up
-pub later_unset : (client : List ℕ) (created : Bool) (located : LocatedBlock) (m b : Shown) (fault : WriteFault)
+pub later_unset : (client : List ℕ) (created : Bool) (located : LocatedBlock) (m b : Shown) (fault : HdfsError)
     → NotSetUp client created located m fault b → Later m b
 later_unset client created located m b fault not = by not.none
   where

@@ -13,12 +13,11 @@ use Rattle.hdfs_cluster.specs.Counts.{FaultCounts, NodesRoseTimes, Rose}
 use Rattle.hdfs_cluster.specs.Requests.{AreFirst, IsFirstSetup}
 use Rattle.hdfs_cluster.specs.Shown.{Shown}
 use Rattle.hdfs_namenode.specs.Relaying.{Came}
-use Rattle.hdfs_rebuild.specs.declared.block_plan.WriteFault.{WriteFault}
 use Rattle.hdfs_rebuild.specs.Opening.{OpensNone}
 use Rattle.hdfs_file_writer.specs.declared.file_writer.FileWriter.{FileWriter}
 use Rattle.hdfs_file_writer.specs.declared.new_block.Candidate.{Candidate}
 use Rattle.hdfs_file_writer.specs.declared.new_block.Tries.{Tries}
-use Rattle.hdfs_file_writer.specs.Faults.{error_of, is_of_setup}
+use Rattle.hdfs_file_writer.specs.Faults.{is_of_setup}
 use Rattle.hdfs_file_writer.specs.Writers.{Wrote}
 
 -- what is kept of a block: its name, and its first datanode
@@ -26,7 +25,7 @@ abbrev pub IsCandidate : LocatedBlock → Candidate → Type 0
 IsCandidate located candidate = (candidate.block ≡ located.b) × (slice_get located.locs 0 ≡ Some candidate.first)
 
 -- The first pipeline of a block wasn't set up, which is a new one or one that is gone on with: nothing changed but counts of failures.
-pub record NotSetUp (client : List ℕ) (created : Bool) (located : LocatedBlock) (old : Shown) (fault : WriteFault) (new : Shown) : Type 0 where
+pub record NotSetUp (client : List ℕ) (created : Bool) (located : LocatedBlock) (old : Shown) (fault : HdfsError) (new : Shown) : Type 0 where
   pub setup : Setup
   pub first : IsFirstSetup created located client setup
   pub none : OpensNone old setup fault new
@@ -54,7 +53,7 @@ abbrev pub giving_up : List ℕ → FileWriter → Block → Ask
 giving_up client writer block = abandon_block_ask block writer.path client writer.file_id
 
 -- The block of a try was given up, whose first pipeline couldn't be set up, and another try may follow.
-pub record LeavesCandidate (client : List ℕ) (writer : FileWriter) (tries : Tries) (candidate : Candidate) (fault : WriteFault) (old : Shown)
+pub record LeavesCandidate (client : List ℕ) (writer : FileWriter) (tries : Tries) (candidate : Candidate) (fault : HdfsError) (old : Shown)
     (tries' : Tries) (new : Shown) : Type 0 where
   pub of_setup : is_of_setup fault ≡ true
   pub fewer : tries'.left + 1 ≡ tries.left
@@ -68,7 +67,7 @@ GivesUpNot client writer candidate old error new =
     × ((result ≡ Err error) ⊎ (error ≡ errors.NoMemory))
 
 -- No other try follows: none may, so that the error is that of this one, or its block wasn't given up.
-abbrev pub EndsTries : List ℕ → FileWriter → Tries → Candidate → WriteFault → Shown → HdfsError → Shown → Type 0
+abbrev pub EndsTries : List ℕ → FileWriter → Tries → Candidate → HdfsError → Shown → HdfsError → Shown → Type 0
 EndsTries client writer tries candidate fault old error new =
-    ((error ≡ error_of fault) × (is_of_setup fault ≡ true → tries.left ≡ 0) × (new ≡ old))
+    ((error ≡ fault) × (is_of_setup fault ≡ true → tries.left ≡ 0) × (new ≡ old))
     ⊎ ((is_of_setup fault ≡ true) × GivesUpNot client writer candidate old error new)

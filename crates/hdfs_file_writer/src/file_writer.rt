@@ -3,7 +3,6 @@ ghost use Rattle.std.specs.Prelude.{◌≡◌, ◌≢◌, ◌<◌, ◌≤◌, []
 ghost use Rattle.hdfs_cluster.specs.Shown.{SameNodes, Shown};
 ghost use Rattle.hdfs_cluster.specs.declared.errors.HdfsError.TheVariants as errors;
 
-use crate::faults::error_of;
 use crate::sizes::WriteSizes;
 use hdfs_block_writer::BlockWriter;
 use hdfs_cluster::{ArgFault, Block, Cluster, Feature, HdfsError, LocatedBlock};
@@ -112,10 +111,8 @@ impl FileWriter {
         let Some(block) = &mut self.going else {
             unreachable!();
         };
-        match block.write(cluster, namenode, bytes) {
-            Ok(taken) => Ok(taken),
-            Err(fault) => Err(error_of(fault)),
-        }
+        let taken = block.write(cluster, namenode, bytes)?;
+        Ok(taken)
     }
 
     /// Takes the bytes, and answers how many they are. A block that is full is ended, and the next one begun, once a byte comes

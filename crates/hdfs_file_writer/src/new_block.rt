@@ -1,11 +1,10 @@
 //! A new block of a file is begun. Where its first pipeline can't be set up it is given up, and another block is tried.
 ghost use Rattle.std.specs.Prelude.{◌≡◌, ◌<◌, [], true, false, IfOk, IfErr, OnOk, length};
 
-use crate::faults::{error_of, is_of_setup};
+use crate::faults::is_of_setup;
 use crate::file_writer::FileWriter;
 use hdfs_cluster::{Block, Cluster, DatanodeInfo, HdfsError, LocatedBlock};
 use hdfs_namenode::NamenodeProtocol;
-use hdfs_rebuild::WriteFault;
 use hdfs_wire::{List, NoMemory};
 use std::alloc::Global;
 
@@ -30,7 +29,7 @@ impl Tries {
     }
 
     /// Whether another one may follow one that has failed by this fault.
-    fn may_follow(&self, fault: &WriteFault) -> bool
+    fn may_follow(&self, fault: &HdfsError) -> bool
         ensures follows { result ≡ true → (0 < self.now.left) × (is_of_setup fault.now ≡ true) }
         ensures ends { result ≡ false → is_of_setup fault.now ≡ true → self.now.left ≡ 0 }
     {
@@ -79,7 +78,7 @@ impl FileWriter {
         namenode: &mut NamenodeProtocol,
         tries: &mut Tries,
         candidate: Candidate,
-        fault: WriteFault,
+        fault: HdfsError,
     ) -> Result<(), HdfsError>
         requires service { IsServiceOf (proxy_of namenode.old) (C.shown cluster.old) }
         requires allowed { C.allows (AskOf (giving_up (name_of namenode.old) self.now candidate.block)) }
@@ -92,7 +91,7 @@ impl FileWriter {
     {
         if !tries.may_follow(&fault) {
             drop(candidate);
-            return Err(error_of(fault));
+            return Err(fault);
         }
         drop(fault);
         let Candidate { block, first } = candidate;

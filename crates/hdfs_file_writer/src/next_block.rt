@@ -1,12 +1,11 @@
 //! A writer's next block: the one before it is ended, and one is asked for and opened that has room for a byte.
 ghost use Rattle.std.specs.Prelude.{◌≡◌, ◌<◌, ◌≤◌, [], false, None, Some, IsTrue, ◌↔◌, IfOk, IfErr, IfSome, OnOk};
 
-use crate::faults::error_of;
 use crate::file_writer::FileWriter;
 use hdfs_block_writer::{BlockSizes, BlockWriter};
 use hdfs_cluster::{Cluster, DatanodeInfo, HdfsError, LocatedBlock};
 use hdfs_namenode::NamenodeProtocol;
-use hdfs_rebuild::{BlockPlan, WriteFault};
+use hdfs_rebuild::BlockPlan;
 use hdfs_wire::NoMemory;
 
 impl FileWriter {
@@ -44,13 +43,11 @@ impl FileWriter {
             None => {}
         }
         match self.going.take() {
-            Some(block) => match block.close(cluster, namenode) {
-                Ok(block) => {
-                    self.last = Some(block);
-                    Ok(())
-                }
-                Err(fault) => Err(error_of(fault)),
-            },
+            Some(block) => {
+                let done = block.close(cluster, namenode)?;
+                self.last = Some(done);
+                Ok(())
+            }
             None => Ok(()),
         }
     }
@@ -76,7 +73,7 @@ impl FileWriter {
         namenode: &NamenodeProtocol,
         located: LocatedBlock,
         created: bool,
-    ) -> Result<(), WriteFault>
+    ) -> Result<(), HdfsError>
         requires begins { MayBegin self.old }
         requires located { IsToOpen C.may_answer (name_of namenode.now) self.old created located }
         requires allowed { (setup : Setup) → IsFirstSetup created located (name_of namenode.now) setup
@@ -173,10 +170,8 @@ impl FileWriter {
         }
         match self.take_reopened() {
             Some(located) => {
-                return match self.open_block(cluster, namenode, located, false) {
-                    Ok(()) => Ok(()),
-                    Err(fault) => Err(error_of(fault)),
-                };
+                self.open_block(cluster, namenode, located, false)?;
+                return Ok(());
             }
             None => {}
         }

@@ -4,5 +4,5 @@
 mod listing;
 mod walk;
 
-pub use listing::list_path;
+pub use listing::{ListTerms, list_path};
 pub use walk::has_more;

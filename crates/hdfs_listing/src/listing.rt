@@ -159,6 +159,13 @@ impl Walk {
     }
 }
 
+/// What of a directory is listed: what stands in it alone, or below it, too, in at most so many entries.
+#[derive(Clone, Copy)]
+pub struct ListTerms {
+    pub recursive: bool,
+    pub limit: u64,
+}
+
 /// What stands in the directory at a path, which the caller calls `given`, and where `recursive` says so below it, in the order of a walk, if
 /// that is no more than `limit` entries; of a file, the file. All namenodes of a cluster are asked, page by page.
 ///
@@ -169,23 +176,22 @@ pub fn list_path<C: Cluster>(
     namenode: &mut NamenodeProtocol,
     given: &Text,
     path: &str,
-    recursive: bool,
-    limit: u64,
+    terms: ListTerms,
 ) -> Result<Vec<PathEntry>, HdfsError>
     requires reaches { ReachesAll (proxy_of namenode.old) (C.shown cluster.old) }
-    requires allowed { LetsList C.allows C.may_answer recursive path.now }
+    requires allowed { LetsList C.allows C.may_answer terms.recursive path.now }
     ensures client { SameClient namenode.old namenode.new }
     ensures leaves { Leaves (C.shown cluster.old) (C.shown cluster.new) }
-    ensures count { IfOk result (λ entries. vec_len entries ≤ limit) }
-    ensures err { IfErr result (λ error. TellsListing C.may_answer given.now recursive path.now limit
+    ensures count { IfOk result (λ entries. vec_len entries ≤ terms.limit) }
+    ensures err { IfErr result (λ error. TellsListing C.may_answer given.now terms.recursive path.now terms.limit
         (C.shown cluster.old) error (C.shown cluster.new)) }
     ensures told { (p : Picture) (state : State) → (C.shown cluster.old).picture ≡ Some p → Tells p state
-        → Lists p state given.now path.now recursive limit (C.shown cluster.old) (C.shown cluster.new) result }
+        → Lists p state given.now path.now terms.recursive terms.limit (C.shown cluster.old) (C.shown cluster.new) result }
 {
-    let mut walk = Walk::new(alloc, given, path, recursive)?;
+    let mut walk = Walk::new(alloc, given, path, terms.recursive)?;
     let dir = Text::from_str(alloc, path)?;
     let start = Text::new(alloc);
     walk.turn_page(cluster, namenode, &dir, &start)?;
-    let found = walk.gather(cluster, namenode, limit)?;
+    let found = walk.gather(cluster, namenode, terms.limit)?;
     Ok(found)
 }

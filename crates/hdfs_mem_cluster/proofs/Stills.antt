@@ -21,7 +21,7 @@ use Rattle.hdfs_mem_datanodes.specs.declared.datanodes.Datanodes.{Datanodes}
 use Rattle.hdfs_mem_cluster.specs.declared.mem_links.MemLinks.{MemLinks}
 use Rattle.hdfs_mem_cluster.specs.declared.read_link.MemRead.{MemRead}
 use Rattle.hdfs_mem_cluster.specs.declared.write_link.MemWrite.{MemWrite}
-use Rattle.hdfs_mem_cluster.specs.Links.{read_at, read_told, read_place, write_at, write_told, write_place, ChangesRead, ChangesWrite, KeepsLinks, UnsentOn, UnackedOn, first_uuid}
+use Rattle.hdfs_mem_cluster.specs.Links.{read_at, read_told, read_place, write_at, write_told, write_place, ChangesRead, ChangesWrite, ChangesNoLink, UnsentOn, UnackedOn, first_uuid}
 use Rattle.hdfs_mem_cluster.specs.MemShown.{picture_at, loaded_at, counts_at}
 use Rattle.hdfs_mem_cluster.specs.Writes.{place_of, told_of}
 use Rattle.hdfs_mem_datanodes.specs.Nodes.{SameHeld}
@@ -47,7 +47,7 @@ pub record SameLinksShown (s s' : MemLinks) : Type 0 where
   pub writes : (l : ℕ) → write_told (write_at s' l) ≡ write_told (write_at s l)
   pub write_places : (nodes : Datanodes) (l : ℕ) → write_place nodes l (write_at s' l) ≡ write_place nodes l (write_at s l)
 
-pub links_from_same : (s s' : MemLinks) → KeepsLinks s s' → SameLinksShown s s'
+pub links_from_same : (s s' : MemLinks) → ChangesNoLink s s' → SameLinksShown s s'
 links_from_same s s' same = record {
   reads = λ l. ap read_told (same.reads l);
   read_places = λ l. ap read_place (same.reads l);

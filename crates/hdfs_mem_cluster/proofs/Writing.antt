@@ -25,7 +25,7 @@ use Rattle.hdfs_mem_namenode.specs.declared.namespace.Namespace.{Namespace}
 use Rattle.hdfs_mem_datanodes.specs.declared.datanodes.Datanodes.{Datanodes}
 use Rattle.hdfs_mem_cluster.specs.declared.mem_links.MemLinks.{MemLinks}
 use Rattle.hdfs_mem_cluster.specs.declared.write_link.MemWrite.{MemWrite}
-use Rattle.hdfs_mem_cluster.specs.Links.{read_told, read_place, write_at, write_told, write_place, ChangesWrite, KeepsLinks, SendsOn, among, first_uuid}
+use Rattle.hdfs_mem_cluster.specs.Links.{read_told, read_place, write_at, write_told, write_place, ChangesWrite, ChangesNoLink, SendsOn, among, first_uuid}
 use Rattle.hdfs_mem_cluster.specs.MemShown.{picture_at}
 use Rattle.hdfs_mem_datanodes.specs.Nodes.{held_in, undisturbed_in, is_named, is_on}
 use Rattle.hdfs_mem_cluster.specs.Writes.{told_at, told_of, place_at, place_of, disturbed_at, SameWrite, PutsPacket}
@@ -75,7 +75,7 @@ other_link false false u' link other apart is = ap not is
 
 -- No pipeline was set up. What its datanodes note of the link is not seen, since it is vacant.
 pub not_opened_write : (space : Namespace) (settings : MemSettings) (last : LastAnswer) (failures : ℕ) (loaded : List Line) (faults faults' : FaultPlan) (nodes nodes' : Datanodes) (s s' : MemLinks) (link : ℕ) (setup : Setup) (fault : LinkFault)
-    → NoneFalls faults faults' → write_at s link ≡ None → KeepsLinks s s'
+    → NoneFalls faults faults' → write_at s link ≡ None → ChangesNoLink s s'
     → ((d : List ℕ) (b other : ℕ) → (link ≡ other → ⊥) → undisturbed_in nodes' d b other ≡ undisturbed_in nodes d b other) → ((d : List ℕ) (b : ℕ) → held_in nodes' d b ≡ held_in nodes d b)
     → (fault ≢ link_faults.NoMemory → BlamedRose (blamed setup) faults faults')
     → WriteNotOpened (shown_at space settings last failures loaded faults nodes s) setup fault (shown_at space settings last failures loaded faults' nodes' s')

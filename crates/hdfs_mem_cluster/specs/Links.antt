@@ -67,7 +67,7 @@ pub record ChangesWrite (old new : MemLinks) (link : ℕ) (write : Option MemWri
   pub reads : (l : ℕ) → read_at new l ≡ read_at old l
 
 -- no link changes
-pub record KeepsLinks (old new : MemLinks) : Type 0 where
+pub record ChangesNoLink (old new : MemLinks) : Type 0 where
   pub reads : (l : ℕ) → read_at new l ≡ read_at old l
   pub writes : (l : ℕ) → write_at new l ≡ write_at old l
 

@@ -15,3 +15,4 @@ mod writing;
 pub use leases::LeaseTurn;
 pub use protocol::NamenodeProtocol;
 pub use proxy::NameServiceProxy;
+pub use writing::NewFileTerms;

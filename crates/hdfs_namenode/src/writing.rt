@@ -4,9 +4,9 @@ ghost use Rattle.hdfs_cluster.specs.Effects.{HasOneMore};
 ghost use Rattle.hdfs_cluster.specs.Namenode.{IsToWrite};
 ghost use Rattle.hdfs_cluster.specs.Requests.{AskOf};
 ghost use Rattle.hdfs_cluster.specs.declared.asks.Ask.TheVariants as asks;
-ghost use Rattle.hdfs_cluster.specs.Asks.{abandon_block_ask, add_block_ask, additional_datanode_ask, complete_ask, create_ask, update_pipeline_ask};
+ghost use Rattle.hdfs_cluster.specs.Asks.{abandon_block_ask, add_block_ask, additional_datanode_ask, complete_ask, update_pipeline_ask};
 ghost use Rattle.hdfs_cluster.specs.declared.asks.Answer.TheVariants as answers;
-ghost use Rattle.hdfs_namenode.specs.Asked.{AskedOnce, IsServiceOf, as_answer};
+ghost use Rattle.hdfs_namenode.specs.Asked.{AskedOnce, IsServiceOf, as_answer, new_file_ask};
 ghost use Rattle.hdfs_namenode.specs.Relaying.{Came};
 ghost use Rattle.hdfs_namenode.specs.Views.{Seen};
 
@@ -19,44 +19,45 @@ use hdfs_cluster::{
 };
 use hdfs_wire::{NoMemory, Text};
 
+/// What a new file is asked for with: its permission bits `masked`, its replication and the size of its blocks in bytes.
+/// `create_flag` is 1, and 3 where an older file is overwritten.
+#[derive(Clone, Copy)]
+pub struct NewFileTerms {
+    pub masked: u32,
+    pub create_flag: u32,
+    pub create_parent: bool,
+    pub replication: u32,
+    pub block_size: u64,
+}
+
 impl NamenodeProtocol {
     ghost use Rattle.hdfs_namenode.specs.Clients.{SameClient, name_of, proxy_of, through};
 
-    /// A new file at `src`, open for this client: its permission bits `masked`, its replication and the size of its blocks in
-    /// bytes. `create_flag` is 1, and 3 where an older file is overwritten. Directories that aren't there are made where
-    /// `create_parent` says so.
+    /// A new file at `src`, open for this client. Directories that aren't there are made where `create_parent` says so.
     pub fn create<C: Cluster>(
         &mut self,
         cluster: &mut C,
         src: &str,
-        masked: u32,
-        create_flag: u32,
-        create_parent: bool,
-        replication: u32,
-        block_size: u64,
+        new_file: NewFileTerms,
     ) -> Result<Option<FileStatusMsg>, HdfsError>
         requires service { IsServiceOf (proxy_of self.old) (C.shown cluster.old) }
-        requires allowed { C.allows (AskOf
-            (create_ask src.now masked (name_of self.old) create_flag create_parent replication block_size)) }
-        ensures asked { AskedOnce C.serves true
-            (create_ask src.now masked (name_of self.old) create_flag create_parent replication block_size)
+        requires allowed { C.allows (AskOf (new_file_ask src.now (name_of self.old) new_file)) }
+        ensures asked { AskedOnce C.serves true (new_file_ask src.now (name_of self.old) new_file)
             (through self.old cluster.old) (as_answer answers.Create result) (through self.new cluster.new) }
         ensures came { Seen C.shown (through self.old cluster.old) cluster.new
-            (λ old new. Came old (create_ask src.now masked (name_of self.old) create_flag create_parent
-            replication block_size) (as_answer answers.Create result) new) }
-        ensures answered { IfOk result (λ status. C.may_answer
-            (create_ask src.now masked (name_of self.old) create_flag create_parent replication block_size)
+            (λ old new. Came old (new_file_ask src.now (name_of self.old) new_file) (as_answer answers.Create result) new) }
+        ensures answered { IfOk result (λ status. C.may_answer (new_file_ask src.now (name_of self.old) new_file)
             (answers.Create status)) }
         ensures keeps { SameClient self.old self.new }
     {
         let ask = Ask::Create(CreateAsk {
             src: Text::from_str(self.alloc, src)?,
-            masked,
+            masked: new_file.masked,
             client_name: self.client.copy(self.alloc)?,
-            create_flag,
-            create_parent,
-            replication,
-            block_size,
+            create_flag: new_file.create_flag,
+            create_parent: new_file.create_parent,
+            replication: new_file.replication,
+            block_size: new_file.block_size,
         });
         let answer = self.ask(cluster, ask, true);
         match answer {
@@ -220,7 +221,7 @@ impl NamenodeProtocol {
     }
 
     /// A datanode more for `blk` of the open file at `src`, behind the `existings`, which have these storages, and none of
-    /// `excludes`: the block with the existing datanodes in their order, and the new one among them. `num_additional_nodes` is 1.
+    /// `excludes`: the block with the existing datanodes in their order, and the new one among them.
     pub fn get_additional_datanode<C: Cluster>(
         &mut self,
         cluster: &mut C,
@@ -228,23 +229,21 @@ impl NamenodeProtocol {
         blk: &Block,
         existings: &[DatanodeInfo],
         excludes: &[DatanodeInfo],
-        num_additional_nodes: u32,
         existing_storage_uuids: &[Text],
     ) -> Result<LocatedBlock, HdfsError>
         requires service { IsServiceOf (proxy_of self.old) (C.shown cluster.old) }
         requires allowed { C.allows (AskOf
-            (additional_datanode_ask src.now blk.now existings.now excludes.now num_additional_nodes
+            (additional_datanode_ask src.now blk.now existings.now excludes.now 1
             (name_of self.old) existing_storage_uuids.now)) }
-        ensures asked { AskedOnce C.serves true (additional_datanode_ask src.now blk.now existings.now excludes.now
-            num_additional_nodes
+        ensures asked { AskedOnce C.serves true (additional_datanode_ask src.now blk.now existings.now excludes.now 1
             (name_of self.old) existing_storage_uuids.now) (through self.old cluster.old)
             (as_answer answers.GetAdditionalDatanode result) (through self.new cluster.new) }
         ensures came { Seen C.shown (through self.old cluster.old) cluster.new
-            (λ old new. Came old (additional_datanode_ask src.now blk.now existings.now excludes.now
-            num_additional_nodes (name_of self.old) existing_storage_uuids.now) (as_answer
+            (λ old new. Came old (additional_datanode_ask src.now blk.now existings.now excludes.now 1
+            (name_of self.old) existing_storage_uuids.now) (as_answer
             answers.GetAdditionalDatanode result) new) }
         ensures answered { IfOk result (λ located. C.may_answer
-            (additional_datanode_ask src.now blk.now existings.now excludes.now num_additional_nodes
+            (additional_datanode_ask src.now blk.now existings.now excludes.now 1
             (name_of self.old) existing_storage_uuids.now) (answers.GetAdditionalDatanode located)) }
         ensures shape { IfOk result (λ located. IsToWrite located × HasOneMore existings.now located.locs) }
         ensures keeps { SameClient self.old self.new }
@@ -254,7 +253,6 @@ impl NamenodeProtocol {
             blk,
             existings,
             excludes,
-            num_additional_nodes,
             existing_storage_uuids,
         )?;
         let answer = self.ask(cluster, ask, true);
@@ -375,11 +373,9 @@ impl NamenodeProtocol {
         blk: &Block,
         existings: &[DatanodeInfo],
         excludes: &[DatanodeInfo],
-        num_additional_nodes: u32,
         existing_storage_uuids: &[Text],
     ) -> Result<Ask, NoMemory>
-        ensures { IfOk result (λ ask. ask ≡ additional_datanode_ask src.now blk.now existings.now excludes.now
-            num_additional_nodes
+        ensures { IfOk result (λ ask. ask ≡ additional_datanode_ask src.now blk.now existings.now excludes.now 1
             (name_of self.now) existing_storage_uuids.now) }
     {
         Ok(Ask::GetAdditionalDatanode(GetAdditionalDatanodeAsk {
@@ -387,7 +383,7 @@ impl NamenodeProtocol {
             blk: blk.copy(self.alloc)?,
             existings: copy_nodes(self.alloc, existings)?,
             excludes: copy_nodes(self.alloc, excludes)?,
-            num_additional_nodes,
+            num_additional_nodes: 1,
             client_name: self.client.copy(self.alloc)?,
             existing_storage_uuids: copy_texts(self.alloc, existing_storage_uuids)?,
         }))

@@ -1,8 +1,8 @@
 //! How a service opens a file to be written: a new one, and one that is gone on with.
-ghost use Rattle.std.specs.Prelude.{◌≡◌, ◌≤◌, Option, Some, None, Result, IfOk, IfErr, OnErr, true, false, unwrap_or};
+ghost use Rattle.std.specs.Prelude.{◌≡◌, ◌≤◌, Option, Some, None, Result, IfOk, IfErr, true, false, unwrap_or};
 ghost use Rattle.hdfs_cluster.specs.Picture.{SameButActive, Told};
 ghost use Rattle.hdfs_cluster.specs.Shown.{SameNodes};
-ghost use Rattle.hdfs_cluster.specs.Requests.{AskOf, LetsClose, id_in};
+ghost use Rattle.hdfs_cluster.specs.Requests.{AskOf, LetsClose};
 ghost use Rattle.hdfs_cluster.specs.declared.asks.Answer.{Answer};
 ghost use Rattle.hdfs_cluster.specs.declared.asks.Ask.TheVariants as asks;
 ghost use Rattle.hdfs_cluster.specs.declared.errors.HdfsError.{HdfsError};
@@ -22,7 +22,7 @@ use hdfs_cluster::{
 };
 use hdfs_file_writer::{FileWriter, WriteSizes};
 use hdfs_model::WriteOptions;
-use hdfs_namenode::NamenodeProtocol;
+use hdfs_namenode::{NamenodeProtocol, NewFileTerms};
 use hdfs_wire::Text;
 use std::alloc::Global;
 
@@ -140,15 +140,14 @@ pub fn create_by<C: Cluster>(
     let defaults = limited_defaults(cluster, namenode)?;
     let replication = options.replication.unwrap_or(defaults.replication);
     let block_size = options.block_size.unwrap_or(defaults.block_size);
-    let status = namenode.create(
-        cluster,
-        path.as_str(),
-        options.permission,
-        create_flag(options),
-        options.create_parent,
+    let new_file = NewFileTerms {
+        masked: options.permission,
+        create_flag: create_flag(options),
+        create_parent: options.create_parent,
         replication,
         block_size,
-    )?;
+    };
+    let status = namenode.create(cluster, path.as_str(), new_file)?;
     let told = told_by(status);
     if told.encrypted {
         return Err(refuse_created(cluster, namenode, path.as_str()));

@@ -11,7 +11,7 @@ ghost use Rattle.hdfs_plain.specs.Answers.{Comes};
 ghost use Rattle.hdfs_plain.specs.Plain.{Holds, content_in, files_of, has_open};
 
 use crate::outcome::{PlainOutcome, PlainRefusal};
-use crate::replicas::{block_length, can_cut};
+use crate::replicas::{ReplicaAt, block_length, can_cut};
 use hdfs_cluster::{Attributes, Line, MemSettings};
 use hdfs_model::Reply;
 use hdfs_names::{is_path, nearest_ancestor, parent_of};
@@ -175,15 +175,8 @@ impl PlainFiles {
             None | Some(PlainNode::Dir) | Some(PlainNode::Writing(_)) => false,
             Some(PlainNode::File(file)) => {
                 let count = file.attributes.replication.min(nodes);
-                can_cut(
-                    count,
-                    lines,
-                    path,
-                    block,
-                    node,
-                    len,
-                    block_length(file, block),
-                )
+                let at = ReplicaAt { block, node };
+                can_cut(count, lines, path, at, len, block_length(file, block))
             }
         }
     }

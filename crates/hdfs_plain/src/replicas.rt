@@ -51,18 +51,25 @@ fn other_whole(lines: &[Line], path: &str, block: u32, node: u32, whole: u64, co
     false
 }
 
-/// Whether a replica of a block can be cut to a length behind lines, where the block lies on so many datanodes.
+/// One of a file's blocks on one of its datanodes, by their numbers.
+#[derive(Clone, Copy)]
+pub(crate) struct ReplicaAt {
+    pub block: u32,
+    pub node: u32,
+}
+
+/// Whether a replica of a block that is `whole` bytes long can be cut to a length behind lines, where the block lies on `count` datanodes.
 pub(crate) fn can_cut(
     count: u32,
     lines: &[Line],
     path: &str,
-    block: u32,
-    node: u32,
+    at: ReplicaAt,
     len: u64,
     whole: u64,
 ) -> bool
-    ensures { result ≡ spec.can_cut count lines.now path.now block node len whole }
+    ensures { result ≡ spec.can_cut count lines.now path.now at.block at.node len whole }
 {
+    let ReplicaAt { block, node } = at;
     0 < whole
         && node < count
         && len <= left_of(lines, path, block, node, whole)

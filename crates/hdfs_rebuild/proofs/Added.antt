@@ -1,8 +1,10 @@
 -- What comes of an ask for a datanode more, and of the transfer to it.
-use Rattle.std.proofs.Common.{◌≡◌, ◌≢◌, ◌⊎◌, inl, inr, ⊎_elim, ℕ, ◌≤◌, true, List, Some, refl, sym, ◌∙◌, ap, subst, arith}
+use Rattle.std.proofs.Common.{◌≡◌, ◌≢◌, ◌⊎◌, inl, inr, ⊎_elim, ℕ, ◌≤◌, false, true, List, Some, refl, sym, ◌∙◌, ap, subst, arith}
+use Rattle.std.proofs.lemmas.Bool.{false≢true}
 use Rattle.std.proofs.lemmas.List.Elements.{All-from_recursion}
 use Rattle.std.specs.List.{Contains}
 use Rattle.std.specs.Prelude.{Result, Ok, Err}
+use Rattle.hdfs_cluster.specs.declared.errors.TransferFault.TheVariants as transfer_faults
 use Rattle.hdfs_cluster.specs.declared.asks.Answer.{Answer}
 use Rattle.hdfs_cluster.specs.declared.asks.Answer.TheVariants as answers
 use Rattle.hdfs_cluster.specs.declared.asks.Ask.{Ask}
@@ -31,12 +33,10 @@ use Rattle.hdfs_names.specs.Shown.{shown as policy_of}
 use Rattle.hdfs_namenode.specs.Relaying.{Came}
 use Rattle.hdfs_namenode.proofs.Relayed.{came_as}
 use Rattle.hdfs_rebuild.specs.declared.block_plan.BlockPlan.{BlockPlan}
-use Rattle.hdfs_rebuild.specs.declared.block_plan.WriteFault.{WriteFault}
-use Rattle.hdfs_rebuild.specs.declared.block_plan.WriteFault.TheVariants as faults
 use Rattle.hdfs_rebuild.specs.declared.block_plan.RebuildSettings.{RebuildSettings}
 use Rattle.hdfs_rebuild.specs.Between.{HelpLacks, KeepsLinks, OnlyBlockOf, WaitsOn}
 use Rattle.hdfs_rebuild.specs.Plans.{IsDue, Known, Waits}
-use Rattle.hdfs_rebuild.specs.Replacing.{AddsNode, AddsNone, AreApart, Completes, GivesBlock, GivesNoBlock, GivesToAdded, fault_of_none, fault_of_transfer, with_nodes}
+use Rattle.hdfs_rebuild.specs.Replacing.{AddsNode, AddsNone, AreApart, Completes, CompletesNot, GivesBlock, GivesNoBlock, GivesToAdded, fault_of_none, fault_of_transfer, lacks_replacement, with_nodes}
 use Rattle.hdfs_rebuild.proofs.Adding.{all_in, each_apart, only_given, waits_added, waits_without}
 use Rattle.hdfs_rebuild.proofs.Asks.{asked_error, asked_row, asked_told}
 use Rattle.hdfs_rebuild.proofs.Stepping.{keeps_links_refl, only_block_of_trans, only_block_of-same, waits_on_refl, waits_same}
@@ -51,12 +51,12 @@ pub gives_links : {plan : BlockPlan} {located : LocatedBlock} {name : List ℕ} 
     → KeepsLinks old new
 gives_links {plan} {located} {name} {old} {new} (transfer, gives, given) = transfer_links old new given.only given.writes
 
-pub gives_no_links : {plan : BlockPlan} {located : LocatedBlock} {name : List ℕ} {old : Shown} {fault : WriteFault} {new : Shown}
+pub gives_no_links : {plan : BlockPlan} {located : LocatedBlock} {name : List ℕ} {old : Shown} {fault : HdfsError} {new : Shown}
     → GivesNoBlock plan located name old fault new → KeepsLinks old new
 gives_no_links {plan} {located} {name} {old} {fault} {new} (inl (memory, same)) = subst (KeepsLinks old) (sym same) (keeps_links_refl old)
 gives_no_links {plan} {located} {name} {old} {fault} {new} (inr (transfer, why, gives, is, not)) = transfer_links old new not.only not.writes
 
-none_fault : (error : HdfsError) → error ≢ errors.NoMemory → fault_of_none error ≡ faults.NoReplacement
+none_fault : (error : HdfsError) → error ≢ errors.NoMemory → fault_of_none error ≡ (errors.DataTransferError transfer_faults.NoReplacement)
 none_fault errors.NoMemory apart = absurd (apart refl)
 none_fault error apart = refl
 
@@ -91,7 +91,7 @@ module _ (plan : BlockPlan) {excludes : List DatanodeInfo} {count : ℕ} {client
       )
 
   -- why none was answered
-  none_prepared : {result : Result Answer HdfsError} → Came a (adding plan excludes count client ids) result m → AddsNone plan a faults.NoMemory m
+  none_prepared : {result : Result Answer HdfsError} → Came a (adding plan excludes count client ids) result m → AddsNone plan a errors.NoMemory m
   none_prepared came = record { cause = inl refl; waits = waits_asked came }
 
   pub none_answered : {error : HdfsError} → Came a (adding plan excludes count client ids) (Err error) m → AddsNone plan a (fault_of_none error) m
@@ -159,8 +159,8 @@ module _ (plan : BlockPlan) {excludes : List DatanodeInfo} {count : ℕ} {client
           failed rose = inl (rose_since a.counts.links m.counts.links new.counts.links new.counts.links before rose (omega arith))
 
           why : (fault : LinkFault) → (fault ≢ links.NoMemory → Rose m.counts.links new.counts.links)
-              → (fault_of_transfer fault ≡ faults.NoMemory)
-              ⊎ ((fault_of_transfer fault ≡ faults.NoReplacement) × HelpLacks plan a new)
+              → (fault_of_transfer fault ≡ errors.NoMemory)
+              ⊎ ((fault_of_transfer fault ≡ errors.DataTransferError transfer_faults.NoReplacement) × HelpLacks plan a new)
           why links.NoMemory cause = inl refl
           why links.Broken cause = inr (refl, failed (cause (λ same. absurd (cc))))
           why links.Refused cause = inr (refl, failed (cause (λ same. absurd (cc))))
@@ -168,11 +168,11 @@ module _ (plan : BlockPlan) {excludes : List DatanodeInfo} {count : ℕ} {client
     pub waits_given : {name : List ℕ} {new : Shown} → GivesBlock plan located name m new → WaitsOn plan a (with_nodes plan located) new
     waits_given (transfer, gives, given) = waits_with transfer gives given
 
-    pub given_none : {name : List ℕ} {fault : WriteFault} {new : Shown} → GivesNoBlock plan located name m fault new → AddsNone plan a fault new
+    pub given_none : {name : List ℕ} {fault : HdfsError} {new : Shown} → GivesNoBlock plan located name m fault new → AddsNone plan a fault new
     given_none {name} {fault} {new} (inl (memory, same)) =
-        subst (λ (f : WriteFault). AddsNone plan a f new) (sym memory) (subst (AddsNone plan a faults.NoMemory) (sym same) (none_prepared came))
+        subst (λ (f : HdfsError). AddsNone plan a f new) (sym memory) (subst (AddsNone plan a errors.NoMemory) (sym same) (none_prepared came))
     given_none {name} {fault} {new} (inr (transfer, why, gives, is, not)) =
-        subst (λ (f : WriteFault). AddsNone plan a f new) (sym is) (none_given transfer gives why not)
+        subst (λ (f : HdfsError). AddsNone plan a f new) (sym is) (none_given transfer gives why not)
 
 -- Each of the datanodes is one of them.
 each_there : (plan : BlockPlan) (old : Shown) (excluded : List DatanodeInfo) → AreApart plan old excluded plan.block.locs
@@ -205,15 +205,28 @@ module _ (plan : BlockPlan) (settings : RebuildSettings) (excluded : List Datano
     waits = adds.waits;
   }
 
-  pub completes_without : (b : Shown) → IsDue plan settings plan.block.locs → (policy_of settings.replace).1 ≡ true
-      → AddsNone plan a faults.NoReplacement b → Completes plan settings excluded a plan b
-  completes_without b due best none = record {
+  pub completes_without : (error : HdfsError) (b : Shown) → IsDue plan settings plan.block.locs → (policy_of settings.replace).1 ≡ true
+      → lacks_replacement error ≡ true → AddsNone plan a error b → Completes plan settings excluded a plan b
+  completes_without error b due best lacks none = record {
     how =
         ⊎_elim
-        (λ memory. absurd (cc))
-        (λ lacks. inr (inl (due, best, refl, ⊎_elim (λ links. inl links) (λ namenode. inr namenode.0) lacks.1)))
+        (λ memory. absurd (false≢true (subst (λ (e : HdfsError). lacks_replacement e ≡ true) memory lacks)))
+        (λ why. inr (inl (due, best, refl, ⊎_elim (λ links. inl links) (λ namenode. inr namenode.0) why.1)))
         none.cause;
     block = block;
     apart = each_there plan a excluded;
+    waits = none.waits;
+  }
+
+  -- where it isn't gone on with so, it was for want of memory, or the write doesn't go on without
+  pub completes_not : (error : HdfsError) (b : Shown) → IsDue plan settings plan.block.locs
+      → (lacks_replacement error ≡ true → (policy_of settings.replace).1 ≡ false) → AddsNone plan a error b
+      → CompletesNot plan settings a error b
+  completes_not error b due ends none = record {
+    cause =
+        ⊎_elim
+        (λ memory. inl memory)
+        (λ why. inr (why.0, due, ends (subst (λ (e : HdfsError). lacks_replacement e ≡ true) (sym why.0) refl), why.1))
+        none.cause;
     waits = none.waits;
   }

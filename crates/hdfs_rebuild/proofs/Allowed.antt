@@ -1,22 +1,18 @@
 -- Leave to write a block goes on with the block, whatever its plan becomes, and with the client's name; and what was answered of its pipeline
 -- is so of the next one.
 use Rattle.std.proofs.Common.{arith, ◌≡◌, ℕ, zero, ◌-◌, ◌==◌, suc, List, length, map, inl, inr, refl, sym, ◌∙◌, ap, subst}
-use Rattle.std.specs.Prelude.{◌≢◌, IfOk}
+use Rattle.std.specs.Prelude.{◌≢◌}
 use Rattle.std.proofs.lemmas.Bool.{cond-false, ne_eqb}
-use Rattle.std.proofs.lemmas.List.{length-map}
 use Rattle.hdfs_cluster.specs.declared.asks.Answer.{Answer}
 use Rattle.hdfs_cluster.specs.declared.asks.Ask.{Ask}
 use Rattle.hdfs_cluster.specs.Asks.{update_pipeline_ask}
 use Rattle.hdfs_cluster.specs.declared.messages.Block.{Block}
 use Rattle.hdfs_cluster.specs.declared.messages.DatanodeInfo.{DatanodeInfo}
 use Rattle.hdfs_cluster.specs.declared.messages.LocatedBlock.{LocatedBlock}
-use Rattle.hdfs_cluster.specs.declared.messages.Setup.{Setup}
-use Rattle.hdfs_cluster.specs.declared.messages.Stage.{Stage}
-use Rattle.hdfs_cluster.specs.declared.messages.Stage.TheVariants as stages
 use Rattle.hdfs_cluster.specs.declared.messages.Token.{Token}
 use Rattle.hdfs_cluster.specs.declared.messages.Transfer.{Transfer}
 use Rattle.hdfs_cluster.specs.Namenode.{IsToWrite}
-use Rattle.hdfs_cluster.specs.Requests.{Request, AskOf, SetupOf, TransferOf, ArePlaced, Enlarged, IsEnlarged, IsNamed, IsPipelineOf, IsSameBlock, IsStamped, Left, LetsGoOn, LetsWriteBlock}
+use Rattle.hdfs_cluster.specs.Requests.{Request, AskOf, SetupOf, TransferOf, Enlarged, IsEnlarged, IsNamed, IsPipelineOf, IsSameBlock, IsStamped, Left, LetsGoOn, LetsWriteBlock}
 use Rattle.hdfs_cluster.specs.Shown.{Shown}
 use Rattle.hdfs_rebuild.specs.declared.attempts.Attempt.{Attempt}
 use Rattle.hdfs_rebuild.specs.declared.attempts.Attempt.TheVariants as attempts
@@ -24,9 +20,9 @@ use Rattle.hdfs_rebuild.specs.declared.block_plan.BlockPlan.{BlockPlan}
 use Rattle.hdfs_rebuild.specs.declared.block_plan.RebuildSettings.{RebuildSettings}
 use Rattle.hdfs_rebuild.specs.declared.opening.Opening.{Opening}
 use Rattle.hdfs_rebuild.specs.Opening.{rebuilt_of, setup_for, with_stamp_of}
-use Rattle.hdfs_rebuild.specs.Plans.{KeepsPlan, StaysAnswered, block_without}
+use Rattle.hdfs_rebuild.specs.Plans.{KeepsPlan, StaysAnswered}
 use Rattle.hdfs_rebuild.specs.Replacing.{Completes, GivesToAdded, GoesOnWith, place_beside, place_of, with_nodes}
-use Rattle.hdfs_rebuild.specs.Resuming.{Restamps, with_stamp}
+use Rattle.hdfs_rebuild.specs.Resuming.{Restamps}
 use Rattle.hdfs_rebuild.specs.Trying.{Course, GivesPlan, IsRenewed, LeavesOut, LetsResume, Resumed, plan_of}
 use Rattle.hdfs_rebuild.proofs.Trying.{keeps_going_on, keeps_plan_trans, keeps_with_stamp}
 

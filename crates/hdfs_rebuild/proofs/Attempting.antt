@@ -3,6 +3,7 @@ use Rattle.std.proofs.Common.{◌≡◌, ◌≢◌, inl, inr, ⊎_elim, ℕ, ℤ
 use Rattle.std.specs.List.{slice_index_or}
 use Rattle.std.proofs.lemmas.List.{append-nil, get_or_default}
 use Rattle.hdfs_wire.specs.Outgoing.{Outgoing}
+use Rattle.hdfs_cluster.specs.declared.errors.HdfsError.TheVariants as errors
 use Rattle.hdfs_cluster.specs.declared.asks.LinkFault.{LinkFault}
 use Rattle.hdfs_cluster.specs.declared.asks.LinkFault.TheVariants as link_faults
 use Rattle.hdfs_cluster.specs.declared.errors.HdfsError.{HdfsError}
@@ -29,8 +30,6 @@ use Rattle.hdfs_block_reader.specs.Rebuilding.{BlockHolds, IsListed}
 use Rattle.hdfs_block_reader.proofs.Rebuilding.{block_further, block_waits}
 use Rattle.hdfs_rebuild.specs.declared.attempts.Collected.{Collected}
 use Rattle.hdfs_rebuild.specs.declared.block_plan.BlockPlan.{BlockPlan}
-use Rattle.hdfs_rebuild.specs.declared.block_plan.WriteFault.{WriteFault}
-use Rattle.hdfs_rebuild.specs.declared.block_plan.WriteFault.TheVariants as faults
 use Rattle.hdfs_rebuild.specs.declared.opening.Opening.{Opening}
 use Rattle.hdfs_rebuild.specs.declared.replay.SentAgain.{SentAgain}
 use Rattle.hdfs_rebuild.specs.Between.{KeepsLinks, NamenodeFailed, OnlyBlockOf, Touches}
@@ -274,7 +273,7 @@ module _ (plan : BlockPlan) (opening : Opening) (client : List ℕ) (replay : Li
         told = waits_again;
       }
 
-      pub collects_not : (fault : WriteFault) → CollectsNot sent fault → ResumedNot plan a fault z
+      pub collects_not : (fault : HdfsError) → CollectsNot sent fault → ResumedNot plan a fault z
       collects_not fault none = record {
         links = fallen_links;
         cause = ⊎_elim
@@ -288,11 +287,10 @@ module _ (plan : BlockPlan) (opening : Opening) (client : List ℕ) (replay : Li
       }
 
   -- It wasn't, and the link was ended.
-  module _ (fault : WriteFault) (z : Shown) (not : NamesNot opening.stamp plan m fault n) (gone : WriteEnded n link z) where
-    unnamed_failed : (error : HdfsError) → fault ≡ faults.Namenode error
-        → ((p : Picture) (entry : BlockEntry) → m.picture ≡ Some p → p.table id ≡ Some entry → CallsRose m.counts n)
+  module _ (fault : HdfsError) (z : Shown) (not : NamesNot opening.stamp plan m fault n) (gone : WriteEnded n link z) where
+    unnamed_failed : ((p : Picture) (entry : BlockEntry) → m.picture ≡ Some p → p.table id ≡ Some entry → CallsRose m.counts n)
         → NamenodeFailed plan a z
-    unnamed_failed error is rose p known told w =
+    unnamed_failed rose p known told w =
         calls_rose_since a m n z until_sent.later gone.writes.only.later
         (rose (p2 p known told w) (entry2 p known told w) (t2 p known told w) (is2 p known told w))
 
@@ -305,10 +303,8 @@ module _ (plan : BlockPlan) (opening : Opening) (client : List ℕ) (replay : Li
           (λ memory. inl memory)
           (λ asked. inr (
             asked.0,
-            asked.1,
-            asked.2,
-            tells_since a m n z asked.0 until_sent.later gone.writes.only.later gone.writes.only.last asked.3,
-            unnamed_failed asked.0 asked.1 asked.4,
+            tells_since a m n z fault until_sent.later gone.writes.only.later gone.writes.only.last asked.1,
+            unnamed_failed asked.2,
           ))
           not.cause);
       touches = λ p known told w.
@@ -324,7 +320,7 @@ module _ (plan : BlockPlan) (opening : Opening) (client : List ℕ) (replay : Li
     (a b n z : Shown) (to_write : IsToWrite plan.block)
     (windows : (1 ≤ opening.window) × (opening.window ≤ 1000)) (empty : core ≡ empty_pipeline opening.window (length plan.block.locs))
     (opened : WriteOpened a (setup_for plan opening client) link b) (stops : StopsShort link replay core b n) (gone : WriteEnded n link z) where
-  pub stops_short : ResumedNot plan a faults.NoMemory z
+  pub stops_short : ResumedNot plan a errors.NoMemory z
   stops_short = record {
     links =
         keeps_links_by link a z
@@ -351,7 +347,7 @@ module _ (plan : BlockPlan) (opening : Opening) (client : List ℕ) (replay : Li
   }
 
 -- No link was opened to go on with the block.
-pub opens_none : (plan : BlockPlan) (setup : Setup) → setup.stage ≡ stages.Recovery → (a : Shown) (fault : WriteFault) (b : Shown)
+pub opens_none : (plan : BlockPlan) (setup : Setup) → setup.stage ≡ stages.Recovery → (a : Shown) (fault : HdfsError) (b : Shown)
     → OpensNone a setup fault b → ResumedNot plan a fault b
 opens_none plan setup stage a fault b (inl (memory, same)) = subst (λ (x : Shown). ResumedNot plan a fault x) (sym same) (record {
   links = keeps_links_refl a;

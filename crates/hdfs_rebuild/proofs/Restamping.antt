@@ -1,5 +1,5 @@
 -- How a block gets another pipeline: its generation stamp, its link, and its datanodes in the block table.
-use Rattle.std.proofs.Common.{◌≡◌, ◌≢◌, inl, inr, ⊎_elim, ℕ, ◌<◌, List, map, Some, IsSome, refl, sym, ◌∙◌, ap, subst}
+use Rattle.std.proofs.Common.{◌≡◌, inl, inr, ⊎_elim, ℕ, ◌<◌, List, map, Some, IsSome, refl, sym, ◌∙◌, subst}
 use Rattle.std.specs.Prelude.{Result, Ok, Err}
 use Rattle.hdfs_cluster.specs.declared.asks.Answer.{Answer}
 use Rattle.hdfs_cluster.specs.declared.asks.Answer.TheVariants as answers
@@ -7,7 +7,6 @@ use Rattle.hdfs_cluster.specs.declared.asks.Ask.{Ask}
 use Rattle.hdfs_cluster.specs.declared.asks.Ask.TheVariants as asks
 use Rattle.hdfs_cluster.specs.Asks.{update_pipeline_ask}
 use Rattle.hdfs_cluster.specs.declared.errors.HdfsError.{HdfsError}
-use Rattle.hdfs_cluster.specs.declared.errors.HdfsError.TheVariants as errors
 use Rattle.hdfs_cluster.specs.declared.messages.DatanodeId.{DatanodeId}
 use Rattle.hdfs_cluster.specs.declared.messages.LocatedBlock.{LocatedBlock}
 use Rattle.hdfs_cluster.specs.declared.messages.Token.{Token}
@@ -20,26 +19,16 @@ use Rattle.hdfs_cluster.specs.Shown.{Shown}
 use Rattle.hdfs_cluster.proofs.Repeating.{name_repeats, stamp_repeats}
 use Rattle.hdfs_namenode.specs.Relaying.{Came}
 use Rattle.hdfs_rebuild.specs.declared.block_plan.BlockPlan.{BlockPlan}
-use Rattle.hdfs_rebuild.specs.declared.block_plan.WriteFault.{WriteFault}
-use Rattle.hdfs_rebuild.specs.declared.block_plan.WriteFault.TheVariants as faults
 use Rattle.hdfs_rebuild.specs.Between.{WaitsOn}
 use Rattle.hdfs_rebuild.specs.Opening.{with_stamp_of}
 use Rattle.hdfs_rebuild.specs.Plans.{Known, Waits}
-use Rattle.hdfs_rebuild.specs.Resuming.{fault_of_ask, with_stamp, Restamps, RestampsNot, MayBeNamed, NamesIt, NamesSo, NamesNot}
+use Rattle.hdfs_rebuild.specs.Resuming.{with_stamp, Restamps, RestampsNot, MayBeNamed, NamesIt, NamesSo, NamesNot}
 use Rattle.hdfs_rebuild.proofs.Asks.{asked_told, asked_row, asked_error}
 use Rattle.hdfs_rebuild.proofs.Stepping.{only_block_of-same, written_still, waits_same}
 
 -- a block that is listed is one of the table
 is_some : (p : Picture) (id : ℕ) (entry : BlockEntry) → p.table id ≡ Some entry → IsSome (p.table id)
 is_some p id entry is = subst IsSome (sym is) refl
-
--- what fault an error stands for
-fault_of_none : (error : HdfsError) → error ≡ errors.NoMemory → fault_of_ask error ≡ faults.NoMemory
-fault_of_none error is = ap fault_of_ask is
-
-fault_of_other : (error : HdfsError) → error ≢ errors.NoMemory → fault_of_ask error ≡ faults.Namenode error
-fault_of_other errors.NoMemory other = absurd (other refl)
-fault_of_other error other = refl
 
 -- A plan with another stamp and token waits as it does.
 waits_stamped : (p : Picture) (plan : BlockPlan) (stamp : ℕ) (token : Token) (known : Known) → Waits p plan known
@@ -100,13 +89,11 @@ module _ (plan : BlockPlan) {client : List ℕ} {a b : Shown} where
             (stamp_waits (with_stamp plan stamp token) (λ q known. waits_stamped q plan stamp token known) came);
       }
 
-  restamped_none : (error : HdfsError) → Came a (stamping plan client) (Err error) b → RestampsNot plan a (fault_of_ask error) b
-  restamped_none error came = record {
+  pub restamped_not : {error : HdfsError} → Came a (stamping plan client) (Err error) b → RestampsNot plan a error b
+  restamped_not {error} came = record {
     cause = ⊎_elim
-        (λ memory. inl (fault_of_none error memory))
+        (λ memory. inl memory)
         (λ other. inr (
-          error,
-          fault_of_other error other.0,
           other.0,
           other.1,
           λ p known is w. other.2 p is (stamp_again plan client p w.block.lists.entry w.block.lists.is) (λ class refused. refused),
@@ -114,9 +101,6 @@ module _ (plan : BlockPlan) {client : List ℕ} {a b : Shown} where
         (asked_error came);
     waits = stamp_waits plan (λ q known w. w) came;
   }
-
-  pub restamped_not : {error : HdfsError} {fault : WriteFault} → fault ≡ fault_of_ask error → Came a (stamping plan client) (Err error) b → RestampsNot plan a fault b
-  restamped_not {error} is came = subst (λ (f : WriteFault). RestampsNot plan a f b) (sym is) (restamped_none error came)
 
 -- The namenodes were asked to name the datanodes of a pipeline.
 abbrev pub naming : ℕ → BlockPlan → List ℕ → List DatanodeId → List (List ℕ) → Ask
@@ -153,22 +137,16 @@ module _ {stamp : ℕ} (plan : BlockPlan) {client : List ℕ} {nodes : List Data
       let x = asked_row came (λ no. absurd (cc)) (λ no. absurd (cc)) p is (name_again stamp plan client nodes ids p entry listed) in
       (x.0, x.1, of_plan stamp plan client nodes ids are p x.0 x.2)
 
-  named_none : (error : HdfsError) → Came before (naming stamp plan client nodes ids) (Err error) after
-      → NamesNot stamp plan before (fault_of_ask error) after
-  named_none error came = record {
+  pub named_not : {error : HdfsError} → Came before (naming stamp plan client nodes ids) (Err error) after
+      → NamesNot stamp plan before error after
+  named_not {error} came = record {
     may = may_be_named came;
     cause = ⊎_elim
-        (λ memory. inl (fault_of_none error memory))
+        (λ memory. inl memory)
         (λ other. inr (
-          error,
-          fault_of_other error other.0,
           other.0,
           other.1,
           λ p entry is listed. other.2 p is (name_again stamp plan client nodes ids p entry listed) (λ class refused. refused),
         ))
         (asked_error came);
   }
-
-  pub named_not : {error : HdfsError} {fault : WriteFault} → fault ≡ fault_of_ask error
-      → Came before (naming stamp plan client nodes ids) (Err error) after → NamesNot stamp plan before fault after
-  named_not {error} is came = subst (λ (f : WriteFault). NamesNot stamp plan before f after) (sym is) (named_none error came)

@@ -1,6 +1,7 @@
 -- What calls on links did is so in each view of a cluster: no view hides links, and where the picture is hidden nothing is told of it.
 use Rattle.std.proofs.Common.{◌⊎◌, inl, inr, ℕ, cond, List, [], ◌∷◌, ap}
 use Rattle.hdfs_wire.specs.Outgoing.{Outgoing}
+use Rattle.hdfs_cluster.specs.declared.errors.HdfsError.{HdfsError}
 use Rattle.hdfs_cluster.specs.declared.asks.LinkFault.{LinkFault}
 use Rattle.hdfs_cluster.specs.declared.messages.DatanodeInfo.{DatanodeInfo}
 use Rattle.hdfs_cluster.specs.declared.messages.LocatedBlock.{LocatedBlock}
@@ -16,7 +17,6 @@ use Rattle.hdfs_namenode.proofs.Seeing.{later_seen}
 use Rattle.hdfs_pipeline.specs.Driving.{Drove, Happened, IsGoing, OnLink, StopsShort}
 use Rattle.hdfs_pipeline.specs.Pipelines.{Pipeline}
 use Rattle.hdfs_rebuild.specs.declared.block_plan.BlockPlan.{BlockPlan}
-use Rattle.hdfs_rebuild.specs.declared.block_plan.WriteFault.{WriteFault}
 use Rattle.hdfs_rebuild.specs.declared.replay.SentAgain.{SentAgain}
 use Rattle.hdfs_rebuild.specs.Between.{KeepsLinks}
 use Rattle.hdfs_rebuild.specs.Opening.{OpensNone}
@@ -77,7 +77,7 @@ not_opened_seen (OfService first count) {setup} {fault} {s} {t} h = record {
   cause = λ some. failed_seen (OfService first count) setup.stage setup.locs s t (h.cause some);
 }
 
-pub opens_none_seen : (view : View) {setup : Setup} {fault : WriteFault} {s t : Shown} → OpensNone s setup fault t → OpensNone (see view s) setup fault (see view t)
+pub opens_none_seen : (view : View) {setup : Setup} {fault : HdfsError} {s t : Shown} → OpensNone s setup fault t → OpensNone (see view s) setup fault (see view t)
 opens_none_seen view {setup} {fault} {s} {t} (inl memory) = inl (memory.0, ap (see view) memory.1)
 opens_none_seen view {setup} {fault} {s} {t} (inr none) = inr (none.0, none.1, not_opened_seen view none.2)
 
@@ -150,7 +150,7 @@ pub gives_seen : (view : View) {plan : BlockPlan} {located : LocatedBlock} {clie
     → GivesBlock plan located client (see view s) (see view t)
 gives_seen view {plan} {located} {client} {s} {t} h = (h.0, h.1, transferred_seen view h.2)
 
-pub gives_none_seen : (view : View) {plan : BlockPlan} {located : LocatedBlock} {client : List ℕ} {fault : WriteFault} {s t : Shown}
+pub gives_none_seen : (view : View) {plan : BlockPlan} {located : LocatedBlock} {client : List ℕ} {fault : HdfsError} {s t : Shown}
     → GivesNoBlock plan located client s fault t → GivesNoBlock plan located client (see view s) fault (see view t)
 gives_none_seen view {plan} {located} {client} {fault} {s} {t} (inl memory) = inl (memory.0, ap (see view) memory.1)
 gives_none_seen view {plan} {located} {client} {fault} {s} {t} (inr none) = inr (none.0, none.1, none.2, none.3, not_transferred_seen view none.4)

@@ -2,12 +2,12 @@
 use Rattle.std.proofs.Common.{◌≡◌, ℕ, List, subst}
 use Rattle.std.specs.Prelude.{Result, Ok, Err, IfOk, IfErr}
 use Rattle.hdfs_wire.specs.Outgoing.{Outgoing}
+use Rattle.hdfs_cluster.specs.declared.errors.HdfsError.{HdfsError}
 use Rattle.hdfs_cluster.specs.declared.messages.DatanodeInfo.{DatanodeInfo}
 use Rattle.hdfs_cluster.specs.Namenode.{IsToWrite}
 use Rattle.hdfs_cluster.specs.Shown.{Shown}
 use Rattle.hdfs_rebuild.specs.declared.attempts.Attempt.{Attempt}
 use Rattle.hdfs_rebuild.specs.declared.block_plan.BlockPlan.{BlockPlan}
-use Rattle.hdfs_rebuild.specs.declared.block_plan.WriteFault.{WriteFault}
 use Rattle.hdfs_rebuild.specs.declared.block_plan.RebuildSettings.{RebuildSettings}
 use Rattle.hdfs_rebuild.specs.Attempts.{Attempted, GaveNone, opening_of, standing, task_of}
 use Rattle.hdfs_rebuild.specs.Between.{KeepsLinks}
@@ -42,7 +42,7 @@ to_resume plan0 plan3 settings failed a n given =
 module _ (plan0 plan1 : BlockPlan) (settings : RebuildSettings) (failed : List ℕ) (client : List ℕ) (replay : List Outgoing) (unsent : ℕ)
     (a m : Shown) (leaves : LeavesOut plan0 settings failed plan1) (stays : KeepsLinks a m) where
   -- the pipeline hasn't the datanodes that are due
-  pub incomplete : (fault : WriteFault) → CompletesNot plan1 settings a fault m
+  pub incomplete : (fault : HdfsError) → CompletesNot plan1 settings a fault m
       → GaveNone (task_of settings client replay unsent) (standing plan0 failed a) fault m
   incomplete fault not =
       complete_gave_none plan0 settings failed a m client replay unsent fault stays
@@ -57,7 +57,7 @@ module _ (plan0 plan1 : BlockPlan) (settings : RebuildSettings) (failed : List �
 
     module _ (n : Shown) (keeps : KeepsLinks m n) where
       -- the block has no greater stamp
-      pub unstamped : (fault : WriteFault) → RestampsNot plan2 m fault n
+      pub unstamped : (fault : HdfsError) → RestampsNot plan2 m fault n
           → GaveNone (task_of settings client replay unsent) (standing plan0 failed a) fault n
       unstamped fault not = restamp_gave_none plan0 plan2 settings failed a m n client replay unsent fault stays complete_left keeps not
 
@@ -69,7 +69,7 @@ module _ (plan0 plan1 : BlockPlan) (settings : RebuildSettings) (failed : List �
             attempted plan0 plan2 plan3 settings failed a m n leaves.within stays complete_left keeps restamps client replay unsent z attempt resumed
 
         -- or none does
-        pub untried : (fault : WriteFault) → ResumedNot plan3 n fault z
+        pub untried : (fault : HdfsError) → ResumedNot plan3 n fault z
             → GaveNone (task_of settings client replay unsent) (standing plan0 failed a) fault z
         untried fault not =
             resume_gave_none plan0 plan2 plan3 settings failed a m n leaves.within stays complete_left keeps restamps client replay unsent z

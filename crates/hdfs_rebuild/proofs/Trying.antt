@@ -1,7 +1,10 @@
 -- One attempt to rebuild a pipeline: what its steps come to together.
-use Rattle.std.proofs.Common.{◌≡◌, ◌⊎◌, inl, inr, ⊎_elim, ℕ, ◌+◌, ◌<◌, true, List, [], length, Some, refl, sym, ◌∙◌, ap, subst, arith}
+use Rattle.std.proofs.Common.{◌≡◌, ◌≢◌, ◌⊎◌, inl, inr, ⊎_elim, ℕ, ◌+◌, ◌<◌, true, List, [], length, Some, refl, sym, ◌∙◌, ap, subst, arith}
 use Rattle.std.specs.List.{All, Contains, slice_index_or}
 use Rattle.hdfs_wire.specs.Outgoing.{Outgoing}
+use Rattle.hdfs_cluster.specs.declared.errors.HdfsError.{HdfsError}
+use Rattle.hdfs_cluster.specs.declared.errors.HdfsError.TheVariants as errors
+use Rattle.hdfs_cluster.specs.declared.errors.IoFault.TheVariants as io_faults
 use Rattle.hdfs_cluster.specs.declared.messages.DatanodeInfo.{DatanodeInfo}
 use Rattle.hdfs_cluster.specs.declared.messages.LocatedBlock.{LocatedBlock}
 use Rattle.hdfs_cluster.specs.declared.messages.Token.{Token}
@@ -20,11 +23,11 @@ use Rattle.hdfs_rebuild.specs.declared.attempts.Attempt.{Attempt}
 use Rattle.hdfs_rebuild.specs.declared.attempts.Attempt.TheVariants as attempts
 use Rattle.hdfs_rebuild.specs.declared.attempts.Fallen.{Fallen}
 use Rattle.hdfs_rebuild.specs.declared.block_plan.BlockPlan.{BlockPlan}
-use Rattle.hdfs_rebuild.specs.declared.block_plan.WriteFault.{WriteFault}
 use Rattle.hdfs_rebuild.specs.declared.block_plan.RebuildSettings.{RebuildSettings}
 use Rattle.hdfs_rebuild.specs.declared.block_plan.BlockPipeline.{BlockPipeline}
-use Rattle.hdfs_rebuild.specs.Attempts.{Attempted, Begins, GaveNone, HasRebuildCause, Missed, Recovered, fallen_at, opening_of, standing, task_of}
-use Rattle.hdfs_rebuild.specs.Between.{HelpFailed, KeepsLinks, OnlyBlockOf, WaitsOn}
+use Rattle.hdfs_rebuild.specs.Attempts.{Attempted, Begins, GaveNone, HasRebuildCause, Missed, Recovered, Standing, Task, fallen_at, opening_of, standing, task_of}
+use Rattle.hdfs_namenode.specs.Relaying.{TellsAsk}
+use Rattle.hdfs_rebuild.specs.Between.{HelpFailed, KeepsLinks, NamenodeFailed, OnlyBlockOf, WaitsOn}
 use Rattle.hdfs_rebuild.specs.Opening.{setup_for}
 use Rattle.hdfs_rebuild.specs.Plans.{CanRebuild, HasLeft, HasStamp, IsDue, IsNextPlan, IsNextPipeline, IsReplay, KeepsPlan, Known, Waits, nodes_at, without}
 use Rattle.hdfs_rebuild.specs.Replacing.{Completes, CompletesNot, GoesOnWith, with_nodes}
@@ -33,6 +36,14 @@ use Rattle.hdfs_rebuild.specs.Trying.{FallsAgain, ResumeCause, Resumed, ResumedN
 use Rattle.hdfs_rebuild.proofs.Adding.{one_more_long}
 use Rattle.hdfs_rebuild.proofs.Leaving.{left_or_failed, left_plan, waits_for_left}
 use Rattle.hdfs_rebuild.proofs.Stepping.{failed_behind, help_failed_before, keeps_links_trans, only_block_of_trans, tells_since, touches_behind, touches_by, waits_on_trans}
+
+-- an error of an ask is none of the transfer's, and so a rebuild's cause by a namenode
+asked_cause : (task : Task) (before : Standing) (new : Shown) (error : HdfsError) → error ≢ errors.NoMemory
+    → TellsAsk before.shown new error → NamenodeFailed before.plan before.shown new → HasRebuildCause task before error new
+asked_cause task before new errors.NoMemory other tells rose = tt
+asked_cause task before new (errors.IOError io_faults.Link) other tells rose = absurd tells.0
+asked_cause task before new (errors.DataTransferError fault) other tells rose = absurd tells.0
+asked_cause task before new error other tells rose = (tells, rose)
 
 pub keeps_plan_trans : (a b c : BlockPlan) → KeepsPlan a b → KeepsPlan b c → KeepsPlan a c
 keeps_plan_trans a b c f g = record {
@@ -271,27 +282,25 @@ module _ (plan0 plan2 plan3 : BlockPlan) (settings : RebuildSettings) (failed : 
     attempted (attempts.Fell fallen) falls = misses fallen falls
 
     -- or none comes of it
-    resume_cause : (fault : WriteFault) → KeepsLinks n z → ResumeCause plan3 n fault z
+    resume_cause : (fault : HdfsError) → KeepsLinks n z → ResumeCause plan3 n fault z
         → HasRebuildCause (task_of settings client replay unsent) (standing plan0 failed a) fault z
     resume_cause fault kept (inl (inl memory)) =
-        subst (λ (f : WriteFault). HasRebuildCause (task_of settings client replay unsent) (standing plan0 failed a) f z) (sym memory) tt
+        subst (λ (f : HdfsError). HasRebuildCause (task_of settings client replay unsent) (standing plan0 failed a) f z) (sym memory) tt
     resume_cause fault kept (inl (inr asked)) =
-        subst (λ (f : WriteFault). HasRebuildCause (task_of settings client replay unsent) (standing plan0 failed a) f z) (sym asked.1) (
-          asked.2,
-          tells_since a n z z asked.0 stays_until.later (later_refl z) refl asked.3,
-          failed_behind plan0 plan3 a n z to_next.id stays_until.later waits_next asked.4,
-        )
+        asked_cause (task_of settings client replay unsent) (standing plan0 failed a) z fault asked.0
+        (tells_since a n z z fault stays_until.later (later_refl z) refl asked.1)
+        (failed_behind plan0 plan3 a n z to_next.id stays_until.later waits_next asked.2)
     resume_cause fault kept (inr (which, rose)) =
         let since = rose_since a.counts.links n.counts.links z.counts.links z.counts.links stays_until.later.counts.links rose (omega arith) in
         ⊎_elim
-        (λ link. subst (λ (f : WriteFault). HasRebuildCause (task_of settings client replay unsent) (standing plan0 failed a) f z) (sym link) since)
+        (λ link. subst (λ (f : HdfsError). HasRebuildCause (task_of settings client replay unsent) (standing plan0 failed a) f z) (sym link) since)
         (λ more. ⊎_elim
-        (λ refused. subst (λ (f : WriteFault). HasRebuildCause (task_of settings client replay unsent) (standing plan0 failed a) f z) (sym refused) since)
-        (λ bad. subst (λ (f : WriteFault). HasRebuildCause (task_of settings client replay unsent) (standing plan0 failed a) f z) (sym bad.1) since)
+        (λ refused. subst (λ (f : HdfsError). HasRebuildCause (task_of settings client replay unsent) (standing plan0 failed a) f z) (sym refused) since)
+        (λ bad. subst (λ (f : HdfsError). HasRebuildCause (task_of settings client replay unsent) (standing plan0 failed a) f z) (sym bad.1) since)
         more)
         which
 
-    pub resume_gave_none : (fault : WriteFault) → ResumedNot plan3 n fault z
+    pub resume_gave_none : (fault : HdfsError) → ResumedNot plan3 n fault z
         → GaveNone (task_of settings client replay unsent) (standing plan0 failed a) fault z
     resume_gave_none fault not = record {
       links = keeps_links_trans a n z stays_until not.links;
@@ -301,7 +310,7 @@ module _ (plan0 plan2 plan3 : BlockPlan) (settings : RebuildSettings) (failed : 
 
 -- The block has no greater stamp.
 pub restamp_gave_none : (plan0 plan2 : BlockPlan) (settings : RebuildSettings) (failed : List ℕ) (a m n : Shown) (client : List ℕ)
-    (replay : List Outgoing) (unsent : ℕ) (fault : WriteFault) → KeepsLinks a m
+    (replay : List Outgoing) (unsent : ℕ) (fault : HdfsError) → KeepsLinks a m
     → Completes (left_plan plan0 failed) settings (nodes_at plan0.block.locs failed) a plan2 m → KeepsLinks m n
     → RestampsNot plan2 m fault n → GaveNone (task_of settings client replay unsent) (standing plan0 failed a) fault n
 restamp_gave_none plan0 plan2 settings failed a m n client replay unsent fault stays completes keeps not =
@@ -310,25 +319,23 @@ restamp_gave_none plan0 plan2 settings failed a m n client replay unsent fault s
     record {
       links = keeps_links_trans a m n stays keeps;
       cause = ⊎_elim
-          (λ memory. subst (λ (f : WriteFault). HasRebuildCause (task_of settings client replay unsent) (standing plan0 failed a) f n) (sym memory) tt)
-          (λ asked. subst (λ (f : WriteFault). HasRebuildCause (task_of settings client replay unsent) (standing plan0 failed a) f n) (sym asked.1) (
-            asked.2,
-            tells_since a m n n asked.0 stays.later (later_refl n) refl asked.3,
-            failed_behind plan0 plan2 a m n kept.0.id stays.later waits asked.4,
-          ))
+          (λ memory. subst (λ (f : HdfsError). HasRebuildCause (task_of settings client replay unsent) (standing plan0 failed a) f n) (sym memory) tt)
+          (λ asked. asked_cause (task_of settings client replay unsent) (standing plan0 failed a) n fault asked.0
+          (tells_since a m n n fault stays.later (later_refl n) refl asked.1)
+          (failed_behind plan0 plan2 a m n kept.0.id stays.later waits asked.2))
           not.cause;
       touches = touches_behind plan0 plan2 a m n kept.0.id stays.later waits (touches_by plan2 plan2 m n not.waits);
     }
 
 -- The pipeline has not the datanodes that are due.
 pub complete_gave_none : (plan0 : BlockPlan) (settings : RebuildSettings) (failed : List ℕ) (a m : Shown) (client : List ℕ)
-    (replay : List Outgoing) (unsent : ℕ) (fault : WriteFault) → KeepsLinks a m → CompletesNot (left_plan plan0 failed) settings a fault m
+    (replay : List Outgoing) (unsent : ℕ) (fault : HdfsError) → KeepsLinks a m → CompletesNot (left_plan plan0 failed) settings a fault m
     → GaveNone (task_of settings client replay unsent) (standing plan0 failed a) fault m
 complete_gave_none plan0 settings failed a m client replay unsent fault stays not = record {
   links = stays;
   cause = ⊎_elim
-      (λ memory. subst (λ (f : WriteFault). HasRebuildCause (task_of settings client replay unsent) (standing plan0 failed a) f m) (sym memory) tt)
-      (λ none. subst (λ (f : WriteFault). HasRebuildCause (task_of settings client replay unsent) (standing plan0 failed a) f m) (sym none.0) (
+      (λ memory. subst (λ (f : HdfsError). HasRebuildCause (task_of settings client replay unsent) (standing plan0 failed a) f m) (sym memory) tt)
+      (λ none. subst (λ (f : HdfsError). HasRebuildCause (task_of settings client replay unsent) (standing plan0 failed a) f m) (sym none.0) (
         none.1,
         none.2,
         ⊎_elim

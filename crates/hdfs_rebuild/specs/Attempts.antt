@@ -1,6 +1,9 @@
 -- A pipeline is rebuilt, attempt by attempt.
 use Rattle.std.specs.Prelude.{◌≡◌, ◌≢◌, ◌⊎◌, ℕ, zero, suc, ◌+◌, ◌-◌, ◌<◌, true, false, List, [], ◌∷◌, ◌++◌, length, All, Contains, Some, None}
 use Rattle.hdfs_wire.specs.Outgoing.{Outgoing}
+use Rattle.hdfs_cluster.specs.declared.errors.HdfsError.{HdfsError}
+use Rattle.hdfs_cluster.specs.declared.errors.IoFault.TheVariants as io_faults
+use Rattle.hdfs_cluster.specs.declared.errors.TransferFault.TheVariants as transfer_faults
 use Rattle.hdfs_cluster.specs.declared.errors.HdfsError.TheVariants as errors
 use Rattle.hdfs_cluster.specs.declared.messages.DatanodeInfo.{DatanodeInfo}
 use Rattle.hdfs_cluster.specs.declared.picture.BlockEntry.{BlockEntry}
@@ -18,8 +21,6 @@ use Rattle.hdfs_rebuild.specs.declared.attempts.Attempt.TheVariants as attempts
 use Rattle.hdfs_rebuild.specs.declared.attempts.Fallen.{Fallen}
 use Rattle.hdfs_rebuild.specs.declared.block_plan.BlockPlan.{BlockPlan}
 use Rattle.hdfs_rebuild.specs.declared.block_plan.BlockPipeline.{BlockPipeline}
-use Rattle.hdfs_rebuild.specs.declared.block_plan.WriteFault.{WriteFault}
-use Rattle.hdfs_rebuild.specs.declared.block_plan.WriteFault.TheVariants as faults
 use Rattle.hdfs_rebuild.specs.declared.block_plan.RebuildSettings.{RebuildSettings}
 use Rattle.hdfs_block_reader.specs.Carrying.{AreSlices, FollowFrom, LinkCarries, total}
 use Rattle.hdfs_rebuild.specs.Plans.{HasStamp, IsDue, IsNextPlan, Known, Waits, without}
@@ -118,31 +119,30 @@ pub record Recovered (task : Task) (before : Standing) (rebuilt : BlockPipeline)
 
 -- Why an attempt comes to no link. Want of memory alone is free. Where no datanode is left of a pipeline that was rebuilt as often as it may
 -- be, the limit comes.
-abbrev pub HasRebuildCause : Task → Standing → WriteFault → Shown → Type 0
-HasRebuildCause task before faults.NoMemory new = Unit {0}
-HasRebuildCause task before faults.Failed new = ⊥
-HasRebuildCause task before faults.Link new = Rose before.shown.counts.links new.counts.links
-HasRebuildCause task before faults.Setup new = Rose before.shown.counts.links new.counts.links
-HasRebuildCause task before (faults.BadAck seqno) new = Rose before.shown.counts.links new.counts.links
-HasRebuildCause task before faults.AllNodes new =
+abbrev pub HasRebuildCause : Task → Standing → HdfsError → Shown → Type 0
+HasRebuildCause task before errors.NoMemory new = Unit {0}
+HasRebuildCause task before (errors.IOError io_faults.Link) new = Rose before.shown.counts.links new.counts.links
+HasRebuildCause task before (errors.DataTransferError transfer_faults.Setup) new = Rose before.shown.counts.links new.counts.links
+HasRebuildCause task before (errors.DataTransferError (transfer_faults.BadAck seqno)) new = Rose before.shown.counts.links new.counts.links
+HasRebuildCause task before (errors.DataTransferError transfer_faults.AllNodes) new =
     (left_of before ≡ []) × (before.plan.rebuilds < task.settings.rebuild_limit) × (new ≡ before.shown)
-HasRebuildCause task before faults.NoReplacement new = IsDue before.plan task.settings (left_of before)
+HasRebuildCause task before (errors.DataTransferError transfer_faults.NoReplacement) new = IsDue before.plan task.settings (left_of before)
     × ((policy_of task.settings.replace).1 ≡ false) × HelpLacks before.plan before.shown new × KeepsEntry before.plan before.shown new
-HasRebuildCause task before (faults.RebuildLimit rebuilds) new =
+HasRebuildCause task before (errors.DataTransferError (transfer_faults.RebuildLimit rebuilds)) new =
     (rebuilds ≡ before.plan.rebuilds) × (before.plan.rebuilds ≡ task.settings.rebuild_limit) × (new ≡ before.shown)
-HasRebuildCause task before (faults.Namenode error) new =
-    (error ≢ errors.NoMemory) × TellsAsk before.shown new error × NamenodeFailed before.plan before.shown new
+HasRebuildCause task before error new =
+    TellsAsk before.shown new error × NamenodeFailed before.plan before.shown new
 
 -- An attempt came to no link, for this cause, and left none.
-pub record GaveNone (task : Task) (before : Standing) (fault : WriteFault) (new : Shown) : Type 0 where
+pub record GaveNone (task : Task) (before : Standing) (error : HdfsError) (new : Shown) : Type 0 where
   pub links : KeepsLinks before.shown new
-  pub cause : HasRebuildCause task before fault new
+  pub cause : HasRebuildCause task before error new
   pub touches : Touches before.plan before.shown new
 
 -- There is no plan for the next pipeline, so that an attempt comes to no link, whatever is to be sent.
-abbrev pub GivesNoPlan : RebuildSettings → Standing → WriteFault → Shown → Type 0
-GivesNoPlan settings before fault new =
-    (client : List ℕ) (replay : List Outgoing) (unsent : ℕ) → GaveNone (task_of settings client replay unsent) before fault new
+abbrev pub GivesNoPlan : RebuildSettings → Standing → HdfsError → Shown → Type 0
+GivesNoPlan settings before error new =
+    (client : List ℕ) (replay : List Outgoing) (unsent : ℕ) → GaveNone (task_of settings client replay unsent) before error new
 
 -- what came of an attempt
 abbrev pub Attempted : Task → Standing → Attempt → Shown → Type 0
@@ -158,8 +158,8 @@ pub record RebuiltAfter (task : Task) (before : Standing) (rebuilt : BlockPipeli
   pub recovered : Recovered task last rebuilt new
 
 -- Some attempts failed, and then one came to no link.
-pub record GaveNoneAfter (task : Task) (before : Standing) (fault : WriteFault) (new : Shown) : Type 0 where
+pub record GaveNoneAfter (task : Task) (before : Standing) (error : HdfsError) (new : Shown) : Type 0 where
   pub times : ℕ
   pub last : Standing
   pub missed : MissedTimes times task before last
-  pub gave_none : GaveNone task last fault new
+  pub gave_none : GaveNone task last error new

@@ -1,5 +1,9 @@
 -- How the pipeline of a block is opened: the first one, and one after another has failed.
 use Rattle.std.specs.Prelude.{◌≡◌, ◌⊎◌, ℕ, List, if◌then◌else◌}
+use Rattle.hdfs_cluster.specs.declared.errors.HdfsError.{HdfsError}
+use Rattle.hdfs_cluster.specs.declared.errors.HdfsError.TheVariants as errors
+use Rattle.hdfs_cluster.specs.declared.errors.IoFault.TheVariants as io_faults
+use Rattle.hdfs_cluster.specs.declared.errors.TransferFault.TheVariants as transfer_faults
 use Rattle.hdfs_cluster.specs.declared.asks.LinkFault.{LinkFault}
 use Rattle.hdfs_cluster.specs.declared.asks.LinkFault.TheVariants as links
 use Rattle.hdfs_cluster.specs.declared.messages.Block.{Block}
@@ -8,8 +12,6 @@ use Rattle.hdfs_cluster.specs.declared.messages.Stage.TheVariants as stages
 use Rattle.hdfs_cluster.specs.Pipes.{WriteNotOpened}
 use Rattle.hdfs_cluster.specs.Shown.{Shown}
 use Rattle.hdfs_rebuild.specs.declared.block_plan.BlockPlan.{BlockPlan}
-use Rattle.hdfs_rebuild.specs.declared.block_plan.WriteFault.{WriteFault}
-use Rattle.hdfs_rebuild.specs.declared.block_plan.WriteFault.TheVariants as faults
 use Rattle.hdfs_rebuild.specs.declared.opening.Opening.{Opening}
 
 -- the first pipeline of a plan: the block is new where it was when its writer began, else it is gone on with behind its bytes
@@ -47,12 +49,12 @@ setup_for plan opening client = record {
 }
 
 -- what it is for a writer that no pipeline was opened
-abbrev pub fault_of : LinkFault → WriteFault
-fault_of links.NoMemory = faults.NoMemory
-fault_of links.Broken = faults.Link
-fault_of links.Refused = faults.Setup
+abbrev pub fault_of : LinkFault → HdfsError
+fault_of links.NoMemory = errors.NoMemory
+fault_of links.Broken = errors.IOError io_faults.Link
+fault_of links.Refused = errors.DataTransferError transfer_faults.Setup
 
 -- no pipeline was opened, and nothing changed; for want of memory it may not even have been asked for
-abbrev pub OpensNone : Shown → Setup → WriteFault → Shown → Type 0
-OpensNone old setup fault new =
-    ((fault ≡ faults.NoMemory) × (new ≡ old)) ⊎ ((why : LinkFault) × (fault ≡ fault_of why) × WriteNotOpened old setup why new)
+abbrev pub OpensNone : Shown → Setup → HdfsError → Shown → Type 0
+OpensNone old setup error new =
+    ((error ≡ errors.NoMemory) × (new ≡ old)) ⊎ ((why : LinkFault) × (error ≡ fault_of why) × WriteNotOpened old setup why new)

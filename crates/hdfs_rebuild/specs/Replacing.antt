@@ -1,6 +1,7 @@
 -- A datanode is added to those that are left of a pipeline.
-use Rattle.std.specs.Prelude.{◌≡◌, ◌⊎◌, ℕ, ◌+◌, ◌-◌, ◌==◌, true, false, List, [], ◌∷◌, take, All, Contains, Some, slice_get, if◌then◌else◌}
+use Rattle.std.specs.Prelude.{◌≡◌, ◌⊎◌, ℕ, ◌+◌, ◌-◌, ◌==◌, Bool, true, false, List, [], ◌∷◌, take, All, Contains, Some, slice_get, if◌then◌else◌}
 use Rattle.std.specs.Str.{bytes_eq}
+use Rattle.hdfs_cluster.specs.declared.errors.TransferFault.TheVariants as transfer_faults
 use Rattle.hdfs_cluster.specs.declared.asks.LinkFault.{LinkFault}
 use Rattle.hdfs_cluster.specs.declared.asks.LinkFault.TheVariants as links
 use Rattle.hdfs_cluster.specs.declared.errors.HdfsError.{HdfsError}
@@ -16,8 +17,6 @@ use Rattle.hdfs_cluster.specs.Shown.{Shown}
 use Rattle.hdfs_cluster.specs.Transferring.{NotTransferred, Transferred}
 use Rattle.hdfs_names.specs.Shown.{shown as policy_of}
 use Rattle.hdfs_rebuild.specs.declared.block_plan.BlockPlan.{BlockPlan}
-use Rattle.hdfs_rebuild.specs.declared.block_plan.WriteFault.{WriteFault}
-use Rattle.hdfs_rebuild.specs.declared.block_plan.WriteFault.TheVariants as faults
 use Rattle.hdfs_rebuild.specs.declared.block_plan.RebuildSettings.{RebuildSettings}
 use Rattle.hdfs_rebuild.specs.Between.{HelpFailed, HelpLacks, WaitsOn}
 use Rattle.hdfs_rebuild.specs.Plans.{IsDue, Known, Waits}
@@ -56,20 +55,25 @@ with_nodes plan located = record plan {
 }
 
 -- what it is for a rebuild that no datanode was answered
-abbrev pub fault_of_none : HdfsError → WriteFault
-fault_of_none errors.NoMemory = faults.NoMemory
-fault_of_none error = faults.NoReplacement
+abbrev pub fault_of_none : HdfsError → HdfsError
+fault_of_none errors.NoMemory = errors.NoMemory
+fault_of_none error = errors.DataTransferError transfer_faults.NoReplacement
 
 -- what it is that the datanode that was added wasn't given the block
-abbrev pub fault_of_transfer : LinkFault → WriteFault
-fault_of_transfer links.NoMemory = faults.NoMemory
-fault_of_transfer fault = faults.NoReplacement
+abbrev pub fault_of_transfer : LinkFault → HdfsError
+fault_of_transfer links.NoMemory = errors.NoMemory
+fault_of_transfer fault = errors.DataTransferError transfer_faults.NoReplacement
+
+-- whether it says that no datanode came in the place of one that failed
+abbrev pub lacks_replacement : HdfsError → Bool
+lacks_replacement (errors.DataTransferError transfer_faults.NoReplacement) = true
+lacks_replacement error = false
 
 -- It wasn't: for want of memory before any call, or the transfer has failed.
-abbrev pub GivesNoBlock : BlockPlan → LocatedBlock → List ℕ → Shown → WriteFault → Shown → Type 0
-GivesNoBlock plan located client old fault new =
-    ((fault ≡ faults.NoMemory) × (new ≡ old))
-    ⊎ ((transfer : Transfer) × (why : LinkFault) × GivesToAdded plan located client transfer × (fault ≡ fault_of_transfer why)
+abbrev pub GivesNoBlock : BlockPlan → LocatedBlock → List ℕ → Shown → HdfsError → Shown → Type 0
+GivesNoBlock plan located client old error new =
+    ((error ≡ errors.NoMemory) × (new ≡ old))
+    ⊎ ((transfer : Transfer) × (why : LinkFault) × GivesToAdded plan located client transfer × (error ≡ fault_of_transfer why)
     × NotTransferred old transfer why new)
 
 -- over a told picture, where a block waits: each of these datanodes is one of the plan, or is none of the excluded ones
@@ -85,8 +89,8 @@ pub record AddsNode (plan : BlockPlan) (excluded : List DatanodeInfo) (old : Sho
   pub waits : WaitsOn plan old (with_nodes plan located) new
 
 -- None was: for want of memory, or since a namenode or the transfer has failed. The block waits as before.
-pub record AddsNone (plan : BlockPlan) (old : Shown) (fault : WriteFault) (new : Shown) : Type 0 where
-  pub cause : (fault ≡ faults.NoMemory) ⊎ ((fault ≡ faults.NoReplacement) × HelpLacks plan old new)
+pub record AddsNone (plan : BlockPlan) (old : Shown) (error : HdfsError) (new : Shown) : Type 0 where
+  pub cause : (error ≡ errors.NoMemory) ⊎ ((error ≡ errors.DataTransferError transfer_faults.NoReplacement) × HelpLacks plan old new)
   pub waits : WaitsOn plan old plan new
 
 -- how the datanodes of a plan are gone on with: a datanode is added where one is due; with best effort none is, where a namenode or the
@@ -107,7 +111,7 @@ pub record Completes (plan : BlockPlan) (settings : RebuildSettings) (excluded :
   pub waits : WaitsOn plan old plan' new
 
 -- A datanode was due, and the write doesn't go on without it, or memory was wanting.
-pub record CompletesNot (plan : BlockPlan) (settings : RebuildSettings) (old : Shown) (fault : WriteFault) (new : Shown) : Type 0 where
-  pub cause : (fault ≡ faults.NoMemory) ⊎ ((fault ≡ faults.NoReplacement) × IsDue plan settings plan.block.locs
+pub record CompletesNot (plan : BlockPlan) (settings : RebuildSettings) (old : Shown) (error : HdfsError) (new : Shown) : Type 0 where
+  pub cause : (error ≡ errors.NoMemory) ⊎ ((error ≡ errors.DataTransferError transfer_faults.NoReplacement) × IsDue plan settings plan.block.locs
       × ((policy_of settings.replace).1 ≡ false) × HelpLacks plan old new)
   pub waits : WaitsOn plan old plan new

@@ -15,18 +15,11 @@ use Rattle.hdfs_pipeline.specs.Cores.{IsCore}
 use Rattle.hdfs_pipeline.specs.Driving.{Drove, StopsShort}
 use Rattle.hdfs_pipeline.specs.Pipelines.{Pipeline}
 use Rattle.hdfs_rebuild.specs.declared.block_plan.BlockPlan.{BlockPlan}
-use Rattle.hdfs_rebuild.specs.declared.block_plan.WriteFault.{WriteFault}
-use Rattle.hdfs_rebuild.specs.declared.block_plan.WriteFault.TheVariants as faults
 use Rattle.hdfs_rebuild.specs.declared.replay.Resending.{Resending}
 use Rattle.hdfs_rebuild.specs.declared.replay.SentAgain.{SentAgain}
 use Rattle.hdfs_rebuild.specs.Between.{KeepsLinks, NamenodeFailed, WaitsOn}
 use Rattle.hdfs_rebuild.specs.Opening.{with_stamp_of}
 use Rattle.hdfs_block_reader.specs.Carrying.{FollowFrom}
-
--- what it is for a rebuild that a namenode gave no answer
-abbrev pub fault_of_ask : HdfsError → WriteFault
-fault_of_ask errors.NoMemory = faults.NoMemory
-fault_of_ask error = faults.Namenode error
 
 -- the plan with another generation stamp and token for its block
 abbrev pub with_stamp : BlockPlan → ℕ → Token → BlockPlan
@@ -43,14 +36,13 @@ pub record Restamps (plan : BlockPlan) (old : Shown) (plan' : BlockPlan) (new : 
   pub waits : WaitsOn plan old plan' new
 
 -- why a namenode gave no answer
-abbrev pub AskFails : BlockPlan → Shown → WriteFault → Shown → Type 0
-AskFails plan old fault new = (fault ≡ faults.NoMemory)
-    ⊎ ((error : HdfsError) × (fault ≡ faults.Namenode error) × (error ≢ errors.NoMemory) × TellsAsk old new error
-    × NamenodeFailed plan old new)
+abbrev pub AskFails : BlockPlan → Shown → HdfsError → Shown → Type 0
+AskFails plan old error new = (error ≡ errors.NoMemory)
+    ⊎ ((error ≢ errors.NoMemory) × TellsAsk old new error × NamenodeFailed plan old new)
 
 -- There was none, and the block waits as before.
-pub record RestampsNot (plan : BlockPlan) (old : Shown) (fault : WriteFault) (new : Shown) : Type 0 where
-  pub cause : AskFails plan old fault new
+pub record RestampsNot (plan : BlockPlan) (old : Shown) (error : HdfsError) (new : Shown) : Type 0 where
+  pub cause : AskFails plan old error new
   pub waits : WaitsOn plan old plan new
 
 -- The packets were sent on a fresh link, in order: all of them, or the pipeline has ended at one of them, and the others weren't sent.
@@ -79,10 +71,10 @@ NamesSo P plan old new = (p : Picture) (entry : BlockEntry) → old.picture ≡ 
     → (q : Picture) × (new.picture ≡ Some q) × P p q
 
 -- The datanodes of the plan are those of the block's pipeline in the block table, or that ask was left without an answer.
-pub record NamesNot (stamp : ℕ) (plan : BlockPlan) (old : Shown) (fault : WriteFault) (new : Shown) : Type 0 where
+pub record NamesNot (stamp : ℕ) (plan : BlockPlan) (old : Shown) (error : HdfsError) (new : Shown) : Type 0 where
   pub may : NamesSo (MayBeNamed stamp plan) plan old new
-  pub cause : (fault ≡ faults.NoMemory) ⊎ ((error : HdfsError) × (fault ≡ faults.Namenode error) × (error ≢ errors.NoMemory)
-      × TellsAsk old new error × ((p : Picture) (entry : BlockEntry) → old.picture ≡ Some p
+  pub cause : (error ≡ errors.NoMemory) ⊎ ((error ≢ errors.NoMemory) × TellsAsk old new error
+      × ((p : Picture) (entry : BlockEntry) → old.picture ≡ Some p
       → p.table plan.block.b.block_id ≡ Some entry → CallsRose old.counts new))
 
 -- The packets were sent again, and then the pipeline was named, whose block had this generation stamp.
@@ -93,8 +85,8 @@ pub record SendsAndNames (task : Resending) (stamp : ℕ) (plan : BlockPlan) (ol
   pub names : NamesSo (NamesIt stamp plan) plan between new
 
 -- Memory was wanting while they were sent, or the pipeline wasn't named.
-abbrev pub SendsOrNamesNot : Resending → ℕ → BlockPlan → Shown → WriteFault → Shown → Type 0
-SendsOrNamesNot task stamp plan old fault new =
-    ((fault ≡ faults.NoMemory) × StopsShort task.link task.replay task.core old new)
+abbrev pub SendsOrNamesNot : Resending → ℕ → BlockPlan → Shown → HdfsError → Shown → Type 0
+SendsOrNamesNot task stamp plan old error new =
+    ((error ≡ errors.NoMemory) × StopsShort task.link task.replay task.core old new)
     ⊎ ((sent : SentAgain) × (between : Shown) × SendsAgain task.link task.replay task.core old sent between
-    × KeepsLinks between new × NamesNot stamp plan between fault new)
+    × KeepsLinks between new × NamesNot stamp plan between error new)

@@ -1,6 +1,10 @@
 -- The steps of one attempt to rebuild a pipeline.
 use Rattle.std.specs.Prelude.{◌≡◌, ◌≢◌, ◌⊎◌, ℕ, ℤ, ◌+◌, ◌<◌, List, [], ◌∷◌, ◌++◌, length, slice_index_or, All, Some, None}
 use Rattle.hdfs_wire.specs.Outgoing.{Outgoing}
+use Rattle.hdfs_cluster.specs.declared.errors.HdfsError.{HdfsError}
+use Rattle.hdfs_cluster.specs.declared.errors.HdfsError.TheVariants as errors
+use Rattle.hdfs_cluster.specs.declared.errors.IoFault.TheVariants as io_faults
+use Rattle.hdfs_cluster.specs.declared.errors.TransferFault.TheVariants as transfer_faults
 use Rattle.hdfs_cluster.specs.declared.asks.Answer.{Answer}
 use Rattle.hdfs_cluster.specs.declared.asks.Ask.{Ask}
 use Rattle.hdfs_cluster.specs.declared.messages.LocatedBlock.{LocatedBlock}
@@ -24,8 +28,6 @@ use Rattle.hdfs_rebuild.specs.declared.attempts.Resumption.{Resumption}
 use Rattle.hdfs_rebuild.specs.declared.attempts.Resumption.TheVariants as resumptions
 use Rattle.hdfs_rebuild.specs.declared.block_plan.BlockPlan.{BlockPlan}
 use Rattle.hdfs_rebuild.specs.declared.block_plan.BlockPipeline.{BlockPipeline}
-use Rattle.hdfs_rebuild.specs.declared.block_plan.WriteFault.{WriteFault}
-use Rattle.hdfs_rebuild.specs.declared.block_plan.WriteFault.TheVariants as faults
 use Rattle.hdfs_rebuild.specs.declared.block_plan.RebuildSettings.{RebuildSettings}
 use Rattle.hdfs_rebuild.specs.declared.opening.Opening.{Opening}
 use Rattle.hdfs_rebuild.specs.declared.replay.SentAgain.{SentAgain}
@@ -44,11 +46,11 @@ pub record LeavesOut (plan : BlockPlan) (settings : RebuildSettings) (failed : L
   pub block : IsToWrite plan'.block
 
 -- none is left, though it may be rebuilt once more; the pipeline was rebuilt as often as it may be; or memory was wanting
-abbrev pub LeavesNone : BlockPlan → RebuildSettings → List ℕ → WriteFault → Type 0
-LeavesNone plan settings failed fault =
-    (fault ≡ faults.NoMemory)
-    ⊎ ((fault ≡ faults.AllNodes) × (without 0 failed plan.block.locs ≡ []) × (plan.rebuilds < settings.rebuild_limit))
-    ⊎ ((fault ≡ faults.RebuildLimit plan.rebuilds) × (plan.rebuilds ≡ settings.rebuild_limit))
+abbrev pub LeavesNone : BlockPlan → RebuildSettings → List ℕ → HdfsError → Type 0
+LeavesNone plan settings failed error =
+    (error ≡ errors.NoMemory)
+    ⊎ ((error ≡ errors.DataTransferError transfer_faults.AllNodes) × (without 0 failed plan.block.locs ≡ []) × (plan.rebuilds < settings.rebuild_limit))
+    ⊎ ((error ≡ errors.DataTransferError (transfer_faults.RebuildLimit plan.rebuilds)) × (plan.rebuilds ≡ settings.rebuild_limit))
 
 -- the next pipeline of a block has a generation stamp and a token that were answered to the name that it had before, and where the one
 -- before was answered, so was it
@@ -146,16 +148,16 @@ with_plan plan (resumptions.Fell collected) =
     attempts.Fell (record { plan = plan; failed = collected.failed; replay = collected.replay })
 
 -- why no pipeline stands: for want of memory, since a namenode has failed, or since the links have
-abbrev pub ResumeCause : BlockPlan → Shown → WriteFault → Shown → Type 0
-ResumeCause plan old fault new =
-    AskFails plan old fault new
-    ⊎ (((fault ≡ faults.Link) ⊎ (fault ≡ faults.Setup) ⊎ ((seqno : ℤ) × (fault ≡ faults.BadAck seqno)))
+abbrev pub ResumeCause : BlockPlan → Shown → HdfsError → Shown → Type 0
+ResumeCause plan old error new =
+    AskFails plan old error new
+    ⊎ (((error ≡ errors.IOError io_faults.Link) ⊎ (error ≡ errors.DataTransferError transfer_faults.Setup) ⊎ ((seqno : ℤ) × (error ≡ errors.DataTransferError (transfer_faults.BadAck seqno))))
     × Rose old.counts.links new.counts.links)
 
 -- no pipeline stands, and none is left open
-pub record ResumedNot (plan : BlockPlan) (old : Shown) (fault : WriteFault) (new : Shown) : Type 0 where
+pub record ResumedNot (plan : BlockPlan) (old : Shown) (error : HdfsError) (new : Shown) : Type 0 where
   pub links : KeepsLinks old new
-  pub cause : ResumeCause plan old fault new
+  pub cause : ResumeCause plan old error new
   pub touches : Touches plan old new
 
 -- a pipeline that had ended was driven to its end, and its link was ended, or memory was wanting for that; nothing else happened
@@ -170,6 +172,6 @@ pub record Collects (sent : SentAgain) (collected : Collected) : Type 0 where
   pub replay : collected.replay ≡ sent.core.pushed ++ sent.rest
 
 -- they don't, for want of memory or after a bad acknowledgement
-abbrev pub CollectsNot : SentAgain → WriteFault → Type 0
-CollectsNot sent fault =
-    (fault ≡ faults.NoMemory) ⊎ ((seqno : ℤ) × (fault ≡ faults.BadAck seqno) × (sent.core.end ≡ Some (Bad seqno)))
+abbrev pub CollectsNot : SentAgain → HdfsError → Type 0
+CollectsNot sent error =
+    (error ≡ errors.NoMemory) ⊎ ((seqno : ℤ) × (error ≡ errors.DataTransferError (transfer_faults.BadAck seqno)) × (sent.core.end ≡ Some (Bad seqno)))

@@ -19,14 +19,12 @@ ghost use Rattle.hdfs_rebuild.specs.Opening.{with_stamp_of};
 ghost use Rattle.hdfs_rebuild.specs.Resuming.{SendsAndNames, SendsOrNamesNot};
 ghost use Rattle.hdfs_rebuild.specs.Trying.{IsRenewed, LeavesOut, LeavesNone, LetsResume, GivesPlan, Resumed, ResumedNot, FallsFrom, Collects, CollectsNot, course_of, plan_of, with_plan};
 
-use crate::block_plan::{
-    BlockPipeline, BlockPlan, RebuildSettings, WriteFault, copy_at, nodes_without,
-};
+use crate::block_plan::{BlockPipeline, BlockPlan, RebuildSettings, copy_at, nodes_without};
 use crate::opening::{Opening, open_pipeline};
 use crate::recovery::{name_pipeline, restamp};
 use crate::replacing::complete;
 use crate::replay::{Resending, SentAgain, send_again};
-use hdfs_cluster::Cluster;
+use hdfs_cluster::{Cluster, HdfsError, TransferFault};
 use hdfs_namenode::NamenodeProtocol;
 use hdfs_pipeline::{PipelineCore, PipelineEnd, drive_end};
 use hdfs_wire::{List, NoMemory, WritePacket};
@@ -82,7 +80,7 @@ fn leave_out(
     plan: BlockPlan,
     settings: &RebuildSettings,
     failed: &[u32],
-) -> Result<BlockPlan, WriteFault>
+) -> Result<BlockPlan, HdfsError>
     requires rebuilds { plan.rebuilds ≤ settings.now.rebuild_limit }
     requires block { IsToWrite plan.block }
     ensures ok { IfOk result (LeavesOut plan settings.now failed.now) }
@@ -91,12 +89,12 @@ fn leave_out(
     if plan.rebuilds == settings.rebuild_limit {
         let rebuilds = plan.rebuilds;
         drop(plan);
-        return Err(WriteFault::RebuildLimit { rebuilds });
+        return Err(HdfsError::DataTransferError(TransferFault::RebuildLimit { rebuilds }));
     }
     let block = nodes_without(alloc, plan.block, failed)?;
     if block.locs.as_slice().is_empty() {
         drop(block);
-        return Err(WriteFault::AllNodes);
+        return Err(HdfsError::DataTransferError(TransferFault::AllNodes));
     }
     Ok(BlockPlan {
         block,
@@ -113,7 +111,7 @@ fn replay_and_name<C: Cluster>(
     plan: &BlockPlan,
     stamp: u64,
     task: Resending,
-) -> Result<SentAgain, WriteFault>
+) -> Result<SentAgain, HdfsError>
     requires service { IsServiceOf (proxy_of namenode.old) (C.shown cluster.old) }
     requires allowed { C.allows (AskOf (update_pipeline_ask (name_of namenode.old)
         (with_stamp_of plan.now.block.b stamp) plan.now.block.b (map (λ node. node.id) plan.now.block.locs)
@@ -147,7 +145,7 @@ fn join(
 }
 
 /// A pipeline has ended while packets were sent again on it. Its link is ended, and all packets come back in order.
-fn collect<C: Cluster>(cluster: &mut C, link: u64, sent: SentAgain) -> Result<Collected, WriteFault>
+fn collect<C: Cluster>(cluster: &mut C, link: u64, sent: SentAgain) -> Result<Collected, HdfsError>
     requires drives { Drives (C.shown cluster.old) link sent.core }
     requires ended { IsSome sent.core.end × (sent.core.end ≡ Some Done → ⊥) }
     ensures ended { FallsFrom C.shown (λ before. C.ends before link cluster.new) link sent.core cluster.old }
@@ -160,7 +158,9 @@ fn collect<C: Cluster>(cluster: &mut C, link: u64, sent: SentAgain) -> Result<Co
             let replay = join(replay, rest)?;
             Ok(Collected { failed, replay })
         }
-        PipelineEnd::Bad { seqno } => Err(WriteFault::BadAck { seqno }),
+        PipelineEnd::Bad { seqno } => Err(HdfsError::DataTransferError(TransferFault::BadAck {
+            seqno,
+        })),
         PipelineEnd::Success => unreachable!(),
     }
 }
@@ -173,7 +173,7 @@ fn resume_by<C: Cluster>(
     plan: &BlockPlan,
     opening: Opening,
     replay: List<WritePacket>,
-) -> Result<Resumption, WriteFault>
+) -> Result<Resumption, HdfsError>
     requires service { IsServiceOf (proxy_of namenode.old) (C.shown cluster.old) }
     requires allowed { LetsResume C.allows C.may_answer (name_of namenode.old) plan.now opening }
     requires block { IsToWrite plan.now.block }
@@ -226,7 +226,7 @@ fn resume<C: Cluster>(
     plan: BlockPlan,
     opening: Opening,
     replay: List<WritePacket>,
-) -> Result<Attempt, WriteFault>
+) -> Result<Attempt, HdfsError>
     requires service { IsServiceOf (proxy_of namenode.old) (C.shown cluster.old) }
     requires allowed { LetsResume C.allows C.may_answer (name_of namenode.old) plan opening }
     requires block { IsToWrite plan.block }
@@ -255,7 +255,7 @@ fn next_plan<C: Cluster>(
     plan: BlockPlan,
     settings: &RebuildSettings,
     failed: &[u32],
-) -> Result<BlockPlan, WriteFault>
+) -> Result<BlockPlan, HdfsError>
     requires service { IsServiceOf (proxy_of namenode.old) (C.shown cluster.old) }
     requires allowed { LetsGoOn C.allows C.may_answer (name_of namenode.old) plan.src plan.block }
     requires block { IsToWrite plan.block × ArePlaces (length plan.block.locs) failed.now }
@@ -270,7 +270,7 @@ fn next_plan<C: Cluster>(
 {
     let Ok(excluded) = copy_at(alloc, plan.block.locs.as_slice(), failed) else {
         drop(plan);
-        return Err(WriteFault::NoMemory);
+        return Err(HdfsError::NoMemory);
     };
     let plan = leave_out(alloc, plan, settings, failed)?;
     let plan = complete(
@@ -292,7 +292,7 @@ fn try_once<C: Cluster>(
     settings: &RebuildSettings,
     fallen: Fallen,
     unsent: u64,
-) -> Result<Attempt, WriteFault>
+) -> Result<Attempt, HdfsError>
     requires service { IsServiceOf (proxy_of namenode.old) (C.shown cluster.old) }
     requires allowed { LetsGoOn C.allows C.may_answer (name_of namenode.old) fallen.plan.src fallen.plan.block }
     requires can { CanRebuild fallen settings.now unsent }
@@ -324,7 +324,7 @@ fn try_once<C: Cluster>(
 ///
 /// Errors: `RebuildLimit` where it was rebuilt as often as it may be; `AllNodes` where no datanode is left; `NoReplacement` where one was
 /// due, none came or it wasn't given the block, and writes don't go on with best effort; `Link` and `Setup` where the set-up broke or
-/// was refused; `BadAck` after an acknowledgement that was none that was due; `Namenode` with the error of a namenode; `NoMemory`.
+/// was refused; `BadAck` after an acknowledgement that was none that was due; the error of a namenode; `NoMemory`.
 pub fn rebuild<C: Cluster>(
     alloc: Global,
     cluster: &mut C,
@@ -332,7 +332,7 @@ pub fn rebuild<C: Cluster>(
     settings: &RebuildSettings,
     fallen: Fallen,
     unsent: u64,
-) -> Result<BlockPipeline, WriteFault>
+) -> Result<BlockPipeline, HdfsError>
     requires service { IsServiceOf (proxy_of namenode.old) (C.shown cluster.old) }
     requires allowed { LetsGoOn C.allows C.may_answer (name_of namenode.old) fallen.plan.src fallen.plan.block }
     requires can { CanRebuild fallen settings.now unsent }

@@ -1,15 +1,13 @@
 //! What a writer keeps of a block from one pipeline to the next.
 
 ghost use Rattle.std.specs.Prelude.{◌≡◌, ◌<◌, IfOk, All, length};
-ghost use Rattle.hdfs_rebuild.specs.declared.block_plan.WriteFault.TheVariants as faults;
 ghost use Rattle.hdfs_rebuild.specs.Plans.{without, block_without, nodes_at};
 
-use hdfs_cluster::{Block, DatanodeInfo, HdfsError, LocatedBlock, Token};
+use hdfs_cluster::{Block, DatanodeInfo, LocatedBlock, Token};
 use hdfs_names::ReplaceDatanodeOnFailure;
 use hdfs_pipeline::PipelineCore;
 use hdfs_wire::{List, NoMemory, Text};
-use std::alloc::{AllocError, AllocFailed, Global};
-use thiserror::Error;
+use std::alloc::Global;
 
 /// A block that is being written.
 #[derive(Drop)]
@@ -43,61 +41,6 @@ pub struct BlockPipeline {
     pub plan: BlockPlan,
     pub core: PipelineCore,
     pub link: u64,
-}
-
-/// Why a block isn't written, or its pipeline isn't rebuilt.
-#[derive(Debug, Drop, Error)]
-pub enum WriteFault {
-    #[error("out of memory")]
-    NoMemory,
-    /// An earlier call of the same writer has failed.
-    #[error("failed before")]
-    Failed,
-    /// The connection broke while the pipeline was set up.
-    #[error("no connection to the pipeline")]
-    Link,
-    /// A datanode refused the set-up.
-    #[error("the pipeline was refused")]
-    Setup,
-    /// An acknowledgement was none that was due.
-    #[error("a bad acknowledgement of {seqno}")]
-    BadAck { seqno: i64 },
-    /// Each datanode of the pipeline has failed.
-    #[error("the pipeline has failed")]
-    AllNodes,
-    /// A datanode more was due and none came, and the write doesn't go on without it.
-    #[error("no datanode for one that failed")]
-    NoReplacement,
-    /// The pipeline was rebuilt as often as it may be.
-    #[error("rebuilt {rebuilds} times")]
-    RebuildLimit { rebuilds: u32 },
-    /// A namenode has answered an exception.
-    #[error("{0}")]
-    Namenode(HdfsError),
-}
-
-impl From<NoMemory> for WriteFault {
-    ghost from_gives = { λ _ fault. fault ≡ faults.NoMemory };
-
-    fn from(_: NoMemory) -> Self {
-        WriteFault::NoMemory
-    }
-}
-
-impl From<AllocError> for WriteFault {
-    ghost from_gives = { λ _ fault. fault ≡ faults.NoMemory };
-
-    fn from(_: AllocError) -> Self {
-        WriteFault::NoMemory
-    }
-}
-
-impl<T: Drop> From<AllocFailed<T>> for WriteFault {
-    ghost from_gives = { λ _ fault. fault ≡ faults.NoMemory };
-
-    fn from(_: AllocFailed<T>) -> Self {
-        WriteFault::NoMemory
-    }
 }
 
 /// The items but those at some places.

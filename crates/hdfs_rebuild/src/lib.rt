@@ -9,5 +9,5 @@ mod replacing;
 mod replay;
 
 pub use attempts::{Fallen, rebuild};
-pub use block_plan::{BlockPipeline, BlockPlan, RebuildSettings, WriteFault, nodes_without};
+pub use block_plan::{BlockPipeline, BlockPlan, RebuildSettings, nodes_without};
 pub use opening::{Opening, open_pipeline};

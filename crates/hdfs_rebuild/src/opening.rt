@@ -7,8 +7,11 @@ ghost use Rattle.hdfs_cluster.specs.Requests.{SetupOf};
 ghost use Rattle.hdfs_pipeline.specs.Pipelines.{empty_pipeline};
 ghost use Rattle.hdfs_rebuild.specs.Opening.{OpensNone, fault_of, first_of, rebuilt_of, setup_for, with_stamp_of};
 
-use crate::block_plan::{BlockPlan, WriteFault, access_to};
-use hdfs_cluster::{Block, Cluster, LinkFault, Setup, Stage, copy_nodes, copy_texts};
+use crate::block_plan::{BlockPlan, access_to};
+use hdfs_cluster::{
+    Block, Cluster, HdfsError, IoFault, LinkFault, Setup, Stage, TransferFault, copy_nodes,
+    copy_texts,
+};
 use hdfs_pipeline::PipelineCore;
 use hdfs_wire::{List, NoMemory, Text};
 use std::alloc::Global;
@@ -107,13 +110,13 @@ fn set_up(
 }
 
 /// What it is for a writer that no pipeline was opened.
-fn fault_of(fault: LinkFault) -> WriteFault
+fn fault_of(fault: LinkFault) -> HdfsError
     ensures { result ≡ fault_of fault }
 {
     match fault {
-        LinkFault::NoMemory => WriteFault::NoMemory,
-        LinkFault::Broken => WriteFault::Link,
-        LinkFault::Refused => WriteFault::Setup,
+        LinkFault::NoMemory => HdfsError::NoMemory,
+        LinkFault::Broken => HdfsError::IOError(IoFault::Link),
+        LinkFault::Refused => HdfsError::DataTransferError(TransferFault::Setup),
     }
 }
 
@@ -127,7 +130,7 @@ pub fn open_pipeline<C: Cluster>(
     plan: &BlockPlan,
     opening: Opening,
     client: &str,
-) -> Result<(PipelineCore, u64), WriteFault>
+) -> Result<(PipelineCore, u64), HdfsError>
     requires block { IsToWrite plan.now.block }
     requires window { (1 ≤ opening.window) × (opening.window ≤ 1000) }
     requires allowed { C.allows (SetupOf (setup_for plan.now opening client.now)) }

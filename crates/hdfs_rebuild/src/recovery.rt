@@ -9,31 +9,21 @@ ghost use Rattle.hdfs_namenode.specs.Clients.{SameClient, name_of, proxy_of, thr
 ghost use Rattle.hdfs_namenode.specs.Views.{Seen};
 ghost use Rattle.hdfs_rebuild.specs.Between.{KeepsLinks};
 ghost use Rattle.hdfs_rebuild.specs.Opening.{with_stamp_of};
-ghost use Rattle.hdfs_rebuild.specs.Resuming.{fault_of_ask, with_stamp, Restamps, RestampsNot, NamesIt, NamesSo, NamesNot};
+ghost use Rattle.hdfs_rebuild.specs.Resuming.{with_stamp, Restamps, RestampsNot, NamesIt, NamesSo, NamesNot};
 
-use crate::block_plan::{BlockPlan, WriteFault};
+use crate::block_plan::BlockPlan;
 use crate::opening::with_stamp_of;
 use hdfs_cluster::{Cluster, DatanodeId, DatanodeInfo, HdfsError, LocatedBlock};
 use hdfs_namenode::NamenodeProtocol;
 use hdfs_wire::{List, NoMemory};
 use std::alloc::Global;
 
-/// What it is for a rebuild that a namenode gave no answer.
-fn fault_of_ask(error: HdfsError) -> WriteFault
-    ensures { result ≡ fault_of_ask error }
-{
-    match error {
-        HdfsError::NoMemory => WriteFault::NoMemory,
-        error => WriteFault::Namenode(error),
-    }
-}
-
 /// Asks for a greater generation stamp for the block of the plan.
 pub(crate) fn restamp<C: Cluster>(
     cluster: &mut C,
     namenode: &mut NamenodeProtocol,
     plan: BlockPlan,
-) -> Result<BlockPlan, WriteFault>
+) -> Result<BlockPlan, HdfsError>
     requires service { IsServiceOf (proxy_of namenode.old) (C.shown cluster.old) }
     requires allowed { C.allows (AskOf (asks.UpdateBlockForPipeline plan.block.b (name_of namenode.old))) }
     ensures links { KeepsLinks (C.shown cluster.old) (C.shown cluster.new) }
@@ -49,7 +39,7 @@ pub(crate) fn restamp<C: Cluster>(
         Ok(located) => Ok(with_stamp(plan, located)),
         Err(error) => {
             drop(plan);
-            Err(fault_of_ask(error))
+            Err(error)
         }
     }
 }
@@ -83,7 +73,7 @@ pub(crate) fn name_pipeline<C: Cluster>(
     namenode: &mut NamenodeProtocol,
     plan: &BlockPlan,
     stamp: u64,
-) -> Result<(), WriteFault>
+) -> Result<(), HdfsError>
     requires service { IsServiceOf (proxy_of namenode.old) (C.shown cluster.old) }
     requires allowed { C.allows (AskOf (update_pipeline_ask (name_of namenode.old)
         (with_stamp_of plan.now.block.b stamp) plan.now.block.b (map (λ node. node.id) plan.now.block.locs)
@@ -105,6 +95,6 @@ pub(crate) fn name_pipeline<C: Cluster>(
         plan.block.storage_ids.as_slice(),
     ) {
         Ok(()) => Ok(()),
-        Err(error) => Err(fault_of_ask(error)),
+        Err(error) => Err(error),
     }
 }

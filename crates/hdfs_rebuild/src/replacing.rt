@@ -9,10 +9,12 @@ ghost use Rattle.hdfs_namenode.specs.Clients.{SameClient, name_of, proxy_of, thr
 ghost use Rattle.hdfs_namenode.specs.Views.{Seen};
 ghost use Rattle.hdfs_rebuild.specs.Between.{KeepsLinks};
 ghost use Rattle.hdfs_rebuild.specs.Plans.{StaysAnswered};
-ghost use Rattle.hdfs_rebuild.specs.Replacing.{place_of, place_beside, with_nodes, fault_of_none, fault_of_transfer, GivesToAdded, GivesBlock, GivesNoBlock, AddsNode, AddsNone, Completes, CompletesNot};
+ghost use Rattle.hdfs_rebuild.specs.Replacing.{place_of, place_beside, with_nodes, fault_of_none, fault_of_transfer, lacks_replacement, GivesToAdded, GivesBlock, GivesNoBlock, AddsNode, AddsNone, Completes, CompletesNot};
 
-use crate::block_plan::{BlockPlan, RebuildSettings, WriteFault, access_to};
-use hdfs_cluster::{Cluster, DatanodeInfo, HdfsError, LinkFault, LocatedBlock, Transfer};
+use crate::block_plan::{BlockPlan, RebuildSettings, access_to};
+use hdfs_cluster::{
+    Cluster, DatanodeInfo, HdfsError, LinkFault, LocatedBlock, Transfer, TransferFault,
+};
 use hdfs_namenode::NamenodeProtocol;
 use hdfs_wire::{List, NoMemory};
 use std::alloc::Global;
@@ -97,25 +99,37 @@ fn with_nodes(plan: BlockPlan, located: LocatedBlock) -> BlockPlan
 }
 
 /// What it is for a rebuild that no datanode was answered.
-fn fault_of_none(error: HdfsError) -> WriteFault
+fn fault_of_none(error: HdfsError) -> HdfsError
     ensures { result ≡ fault_of_none error }
 {
     let fault = match error {
-        HdfsError::NoMemory => WriteFault::NoMemory,
-        _ => WriteFault::NoReplacement,
+        HdfsError::NoMemory => HdfsError::NoMemory,
+        _ => HdfsError::DataTransferError(TransferFault::NoReplacement),
     };
     drop(error);
     fault
 }
 
 /// What it is for a rebuild that the datanode that was added wasn't given the block.
-fn fault_of_transfer(fault: LinkFault) -> WriteFault
+fn fault_of_transfer(fault: LinkFault) -> HdfsError
     ensures { result ≡ fault_of_transfer fault }
 {
     match fault {
-        LinkFault::NoMemory => WriteFault::NoMemory,
-        LinkFault::Broken | LinkFault::Refused => WriteFault::NoReplacement,
+        LinkFault::NoMemory => HdfsError::NoMemory,
+        LinkFault::Broken | LinkFault::Refused => HdfsError::DataTransferError(
+            TransferFault::NoReplacement,
+        ),
     }
+}
+
+/// Whether it says that no datanode came in the place of one that failed.
+fn lacks_replacement(error: &HdfsError) -> bool
+    ensures { result ≡ lacks_replacement error.now }
+{
+    matches!(
+        error,
+        HdfsError::DataTransferError(TransferFault::NoReplacement)
+    )
 }
 
 /// Has the datanode that was added given the block.
@@ -125,7 +139,7 @@ fn give_block<C: Cluster>(
     plan: &BlockPlan,
     located: &LocatedBlock,
     client: &str,
-) -> Result<(), WriteFault>
+) -> Result<(), HdfsError>
     requires some { 0 < length plan.now.block.locs }
     requires types { length plan.now.block.storage_types ≡ length plan.now.block.locs }
     requires one { HasOneMore plan.now.block.locs located.now.locs }
@@ -151,7 +165,7 @@ fn add_datanode<C: Cluster>(
     namenode: &mut NamenodeProtocol,
     plan: &BlockPlan,
     excluded: &[DatanodeInfo],
-) -> Result<LocatedBlock, WriteFault>
+) -> Result<LocatedBlock, HdfsError>
     requires service { IsServiceOf (proxy_of namenode.old) (C.shown cluster.old) }
     requires allowed { LetsGoOn C.allows C.may_answer (name_of namenode.old) plan.now.src plan.now.block }
     requires block { IsToWrite plan.now.block }
@@ -169,7 +183,6 @@ fn add_datanode<C: Cluster>(
         &plan.block.b,
         plan.block.locs.as_slice(),
         excluded,
-        1,
         plan.block.storage_ids.as_slice(),
     ) {
         Ok(located) => located,
@@ -193,7 +206,7 @@ pub(crate) fn complete<C: Cluster>(
     plan: BlockPlan,
     settings: &RebuildSettings,
     excluded: &[DatanodeInfo],
-) -> Result<BlockPlan, WriteFault>
+) -> Result<BlockPlan, HdfsError>
     requires service { IsServiceOf (proxy_of namenode.old) (C.shown cluster.old) }
     requires allowed { LetsGoOn C.allows C.may_answer (name_of namenode.old) plan.src plan.block }
     requires block { IsToWrite plan.block }
@@ -214,10 +227,13 @@ pub(crate) fn complete<C: Cluster>(
     }
     match add_datanode(alloc, cluster, namenode, &plan, excluded) {
         Ok(located) => Ok(with_nodes(plan, located)),
-        Err(WriteFault::NoReplacement) if settings.replace.is_best_effort() => Ok(plan),
-        Err(fault) => {
+        Err(error) if lacks_replacement(&error) && settings.replace.is_best_effort() => {
+            drop(error);
+            Ok(plan)
+        }
+        Err(error) => {
             drop(plan);
-            Err(fault)
+            Err(error)
         }
     }
 }

@@ -37,19 +37,26 @@ fn eight_words(
     Ok(create_entry(alloc, path, options)?)
 }
 
+// The first two words of a line.
+#[derive(Clone, Copy)]
+struct LineHead<'a> {
+    kind: &'a [u8],
+    call: &'a [u8],
+}
+
 // A line of six words.
 fn six_words(
     alloc: Global,
-    kind: &[u8],
-    call: &[u8],
+    head: LineHead<'_>,
     a: &[u8],
     b: &[u8],
     c: &[u8],
     d: &[u8],
 ) -> Result<Reading, NoMemory>
     ensures { IfOk result (λ reading. result_ok reading
-        ≡ good (spec.words_entry (kind.now ∷ call.now ∷ a.now ∷ b.now ∷ c.now ∷ d.now ∷ []))) }
+        ≡ good (spec.words_entry (head.entry.kind.now ∷ head.entry.call.now ∷ a.now ∷ b.now ∷ c.now ∷ d.now ∷ []))) }
 {
+    let LineHead { kind, call } = head;
     if is_text(kind, "file") {
         let attributes = attributes(a, b, c);
         return Ok(file_entry(alloc, call, attributes, d)?);
@@ -201,9 +208,13 @@ fn words_entry(alloc: Global, words: &[&[u8]]) -> Result<Reading, NoMemory>
             let options = options(words[3], words[4], words[5], words[6], words[7]);
             Ok(eight_words(alloc, words[0], words[1], words[2], options)?)
         }
-        6 => Ok(six_words(
-            alloc, words[0], words[1], words[2], words[3], words[4], words[5],
-        )?),
+        6 => {
+            let head = LineHead {
+                kind: words[0],
+                call: words[1],
+            };
+            Ok(six_words(alloc, head, words[2], words[3], words[4], words[5])?)
+        }
         5 => Ok(five_words(alloc, words[0], words[1], words[2], words[3], words[4])?),
         4 => Ok(four_words(alloc, words[0], words[1], words[2], words[3])?),
         3 => Ok(three_words(alloc, words[0], words[1], words[2])?),

@@ -36,7 +36,7 @@ pub struct Explanation {
 }
 
 /// What the errors mean, each in a row of its own.
-pub const EXPLANATIONS: [Explanation; 25] = [
+pub const EXPLANATIONS: [Explanation; 24] = [
     Explanation {
         error: "InvalidPath",
         kind: "",
@@ -212,14 +212,6 @@ pub const EXPLANATIONS: [Explanation; 25] = [
         comes: "a close: five answers were that the file isn't closed, so namenodes have failed five times",
         after: "the file may be closed all the same; every other path is as it was",
         next: "look whether it is closed",
-    },
-    Explanation {
-        error: "WriteFault",
-        kind: "Namenode",
-        says: "the text of the namenode's error",
-        comes: "a writer of a block: the last answer of a namenode is an error, and a datanode and a namenode have failed",
-        after: ITS_PATH,
-        next: NEW_FILE,
     },
     Explanation {
         error: "NoMemory",

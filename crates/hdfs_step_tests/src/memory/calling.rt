@@ -12,7 +12,7 @@ use hdfs_cluster::{
     LocatedBlocks,
 };
 use hdfs_mem_cluster::MemCluster;
-use hdfs_namenode::NamenodeProtocol;
+use hdfs_namenode::{NamenodeProtocol, NewFileTerms};
 use hdfs_wire::NoMemory;
 use std::alloc::Global;
 
@@ -42,7 +42,14 @@ fn create(
     requires { IsServiceOf (proxy_of client.old) (shown_of cluster.old) }
 {
     let flag = small(words[2]);
-    let created = client.create(cluster, words[1], 0o640, flag, is_true(words[3]), 3, 8);
+    let new_file = NewFileTerms {
+        masked: 0o640,
+        create_flag: flag,
+        create_parent: is_true(words[3]),
+        replication: 3,
+        block_size: 8,
+    };
+    let created = client.create(cluster, words[1], new_file);
     tell_created(&created, said);
     drop(created);
 }
@@ -256,7 +263,7 @@ fn ask_for_node(
         return;
     }
     let (existing, excludes) = nodes.split_at(1);
-    let found = client.get_additional_datanode(cluster, path, block, existing, excludes, 1, &[]);
+    let found = client.get_additional_datanode(cluster, path, block, existing, excludes, &[]);
     match &found {
         Ok(block) => tell_nodes(block.locs.as_slice(), said),
         Err(error) => tell_error(error, said),

@@ -2,7 +2,7 @@
 use hdfs_cluster::{DirList, HdfsError};
 use hdfs_fakes::cluster;
 use hdfs_mem_cluster::{MemCluster, let_go};
-use hdfs_namenode::{NameServiceProxy, NamenodeProtocol};
+use hdfs_namenode::{NameServiceProxy, NamenodeProtocol, NewFileTerms};
 use std::alloc::Global;
 
 /// The directory.
@@ -22,7 +22,14 @@ fn create(client: &mut NamenodeProtocol, cluster: &mut MemCluster, path: &str) -
     if !client.is_service_of(&*cluster) {
         return false;
     }
-    let created = client.create(cluster, path, 0o644, 1, true, 1, 512);
+    let new_file = NewFileTerms {
+        masked: 0o644,
+        create_flag: 1,
+        create_parent: true,
+        replication: 1,
+        block_size: 512,
+    };
+    let created = client.create(cluster, path, new_file);
     let done = created.is_ok();
     drop(created);
     done

@@ -26,4 +26,4 @@ returns-clause-links g c =
 
 pub returns-clause-err : goal.returns-clause-err
 returns-clause-err g c = λ view has.
-    named_not c.args.plan.now (search rules) c.fault_of_ask.ensures (rw c.in_ok-block.ensures at (c.in-Err.ensures.came view has))
+    named_not c.args.plan.now (search rules) (rw c.in_ok-block.ensures at (c.in-Err.ensures.came view has))

@@ -21,7 +21,7 @@ returns-in-Err-clause-links g c =
     (through c.update_block_for_pipeline.new.self c.update_block_for_pipeline.new.cluster) c.in-Err.ensures.asked
 
 pub returns-in-Err-clause-err : goal.returns-in-Err-clause-err
-returns-in-Err-clause-err g c = λ view has. restamped_not c.args.plan c.fault_of_ask.ensures (c.in-Err.ensures.came view has)
+returns-in-Err-clause-err g c = λ view has. restamped_not c.args.plan (c.in-Err.ensures.came view has)
 
 pub returns-in-Ok-clause-stamped : goal.returns-in-Ok-clause-stamped
 returns-in-Ok-clause-stamped g c =

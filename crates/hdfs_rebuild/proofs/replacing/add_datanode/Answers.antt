@@ -1,10 +1,10 @@
 -- A datanode is asked for, and is given the block; or none is added.
 use Rattle.std.proofs.Common.{List, ℕ, true, refl, sym, ◌∙◌, subst}
+use Rattle.hdfs_cluster.specs.declared.errors.HdfsError.{HdfsError}
 use Rattle.hdfs_cluster.specs.declared.messages.DatanodeInfo.{DatanodeInfo}
 use Rattle.hdfs_cluster.specs.Effects.{HasOneMore}
 use Rattle.hdfs_namenode.specs.Clients.{through}
 use Rattle.hdfs_namenode.specs.Views.{see}
-use Rattle.hdfs_rebuild.specs.declared.block_plan.WriteFault.{WriteFault}
 use Rattle.hdfs_rebuild.specs.Replacing.{AddsNone}
 use Rattle.hdfs_rebuild.proofs.Added.{apart, asked_so, given_none, gives_links, gives_no_links, none_answered, waits_given}
 use Rattle.hdfs_cluster.specs.Requests.{IsEnlarged, LetsGoOn}
@@ -49,7 +49,7 @@ returns-in-Err-clause-links g c =
 
 pub returns-in-Err-clause-err : goal.returns-in-Err-clause-err
 returns-in-Err-clause-err g c = λ view has.
-    subst (λ (f : WriteFault). AddsNone c.args.plan.now (see view (g.C.Cluster.shown c.args.cluster.now)) f (see view (g.C.Cluster.shown c.get_additional_datanode.new.cluster)))
+    subst (λ (f : HdfsError). AddsNone c.args.plan.now (see view (g.C.Cluster.shown c.args.cluster.now)) f (see view (g.C.Cluster.shown c.get_additional_datanode.new.cluster)))
     (sym c.fault_of_none.ensures)
     (none_answered c.args.plan.now (asked_so c.args.plan.now c.as_str.ensures c.as_slice.ensures (c.in-Err.ensures.came view has)))
 

@@ -83,15 +83,15 @@ returns-clause-err g c =
     let b = g.C.Cluster.shown c.flush.new.cluster in
     let z = g.C.Cluster.shown c.end.new.cluster in
     err_by
-    (λ fault. Seen g.C.Cluster.shown (through c.flush.new.namenode c.flush.new.cluster) c.end.new.cluster
-    (λ (s t : Shown). GaveUp s c.flush.new.self fault t))
-    (λ fault. Seen g.C.Cluster.shown (through c.args.namenode.now c.args.cluster.now) c.end.new.cluster
-    (λ (s t : Shown). GaveUp s c.args.self.now fault t)) c.end.result
-    (λ fault gave view has.
+    (λ error. Seen g.C.Cluster.shown (through c.flush.new.namenode c.flush.new.cluster) c.end.new.cluster
+    (λ (s t : Shown). GaveUp s c.flush.new.self error t))
+    (λ error. Seen g.C.Cluster.shown (through c.args.namenode.now c.args.cluster.now) c.end.new.cluster
+    (λ (s t : Shown). GaveUp s c.args.self.now error t)) c.end.result
+    (λ error gave view has.
     let sent = c.in_ok-flush.ensures.wrote view has in
     let then = view_same view (proxy_of c.args.namenode.now) (proxy_of c.flush.new.namenode) a b c.flush.ensures.client.service
     sent.own.later.namenodes has in
-    gave_up_after (see view a) (see view b) c.args.self.now c.flush.new.self [] sent (see view z) fault (gave view then))
+    gave_up_after (see view a) (see view b) c.args.self.now c.flush.new.self [] sent (see view z) error (gave view then))
     c.end.ensures.err
 
 pub returns-clause-client : goal.returns-clause-client

@@ -59,15 +59,15 @@ returns-in-Ok-Recover-clause-err g c =
     let r = recovers_is d.last c.in-Ok-Recover.field-0 c.in-Ok-Recover.failed c.in-Ok-Recover.replay d.is_core d.has_ended d.is c.in-Ok-Recover.field-0-is in
     let task = task_of c.args.self.now.settings (name_of c.args.namenode.now) c.in-Ok-Recover.replay c.args.unsent in
     err_by
-    (λ fault. Seen g.C.Cluster.shown (through c.args.namenode.now c.drive_end.new.cluster) c.rebuild.new.cluster
-    (λ (s t : Shown). GaveNoneAfter task (standing c.with_length-plan.result c.in-Ok-Recover.failed s) fault t))
-    (λ fault. Seen g.C.Cluster.shown (through c.args.namenode.now c.args.cluster.now) c.rebuild.new.cluster
-    (λ (s t : Shown). FallsEnded c.args.self.now.settings s c.args.pipe fault t)) c.rebuild.result
-    (λ fault gave view has.
+    (λ error. Seen g.C.Cluster.shown (through c.args.namenode.now c.drive_end.new.cluster) c.rebuild.new.cluster
+    (λ (s t : Shown). GaveNoneAfter task (standing c.with_length-plan.result c.in-Ok-Recover.failed s) error t))
+    (λ error. Seen g.C.Cluster.shown (through c.args.namenode.now c.args.cluster.now) c.rebuild.new.cluster
+    (λ (s t : Shown). FallsEnded c.args.self.now.settings s c.args.pipe error t)) c.rebuild.result
+    (λ error gave view has.
     ended_given_up c.args.self.now.settings c.args.pipe (see view a) (see view z) (see view m) d.last (standing_seen view c.requires.may.standing)
     c.requires.ended.0 (drove_seen view d.drove) (ended_seen view e) d.is_core
     (name_of c.args.namenode.now) c.in-Ok-Recover.failed c.in-Ok-Recover.replay c.args.self.now.length c.args.unsent c.requires.few.1
-    c.with_length-plan.result r.0 r.1 c.with_length-plan.ensures fault (see view n)
+    c.with_length-plan.result r.0 r.1 c.with_length-plan.ensures error (see view n)
     (gave view (view_same view proxy proxy a m (same_service_refl proxy) (e.writes.only.later.namenodes ∙ d.drove.on.only.later.namenodes) has)))
     c.rebuild.ensures.err
 

@@ -1,10 +1,10 @@
 -- The goals of FileWriter::finish_block.
 use Rattle.std.proofs.Common.{◌≡◌, [], Option, None, Some, IsSome, sym, subst, refl, ◌∙◌, ap}
+use Rattle.std.proofs.lemmas.Result.{err_from_is_err_and}
 use Rattle.hdfs_block_writer.specs.declared.block_writer.BlockWriter.{BlockWriter}
-use Rattle.hdfs_cluster.specs.declared.errors.HdfsError.{HdfsError}
 use Rattle.hdfs_cluster.specs.declared.messages.Block.{Block}
 use Rattle.hdfs_cluster.specs.declared.messages.LocatedBlock.{LocatedBlock}
-use Rattle.hdfs_file_writer.specs.Writers.{IsBetweenBlocks, Wrote, FailsOtherwise}
+use Rattle.hdfs_file_writer.specs.Writers.{IsBetweenBlocks, Wrote}
 use Rattle.hdfs_file_writer.proofs.Allowed.{answered_closed, answered_going, answered_idle, answered_left, answered_reopened, may_go_on}
 use Rattle.hdfs_file_writer.proofs.Blocks.{settled_full, ended_full}
 use Rattle.hdfs_file_writer.proofs.Joining.{wrote_nothing}
@@ -57,41 +57,42 @@ close-requires g c =
       stands = stands.stands;
     }
 
-pub returns-in-Ok-clause-between : goal.returns-in-Ok-clause-between
-returns-in-Ok-clause-between g c =
+pub returns-in_ok-done-in-Some-take-clause-between : goal.returns-in_ok-done-in-Some-take-clause-between
+returns-in_ok-done-in-Some-take-clause-between g c =
     let w = c.args.self.now in
     let going : w.going ≡ Some c.in-Some-take.block = sym c.take-2.ensures.value ∙ c.in-Some-take.is in
-    let between : IsBetweenBlocks (record w { last = Some c.in-Ok.block; going = c.take-2.new.self; reopened = c.take.new.self }) =
+    let between : IsBetweenBlocks (record w { last = Some c.in_ok-done-in-Some-take.done; going = c.take-2.new.self; reopened = c.take.new.self }) =
     record { none = c.take-2.ensures.after; done = c.take.ensures.after } in (
       between,
-      ended_full w.sizes.block_size w (record w { last = Some c.in-Ok.block; going = c.take-2.new.self; reopened = c.take.new.self })
-          c.in-Some-take.block c.in-Ok.block going between refl
-          (ap (λ (b : Block). b.num_bytes) (c.in-Ok.ensures.closed (view_of (proxy_of c.args.namenode.now)) (refl, refl)).1),
+      ended_full w.sizes.block_size w (record w { last = Some c.in_ok-done-in-Some-take.done; going = c.take-2.new.self; reopened = c.take.new.self })
+          c.in-Some-take.block c.in_ok-done-in-Some-take.done going between refl
+          (ap (λ (b : Block). b.num_bytes) (c.in_ok-done-in-Some-take.ensures.closed (view_of (proxy_of c.args.namenode.now)) (refl, refl)).1),
     )
 
-pub returns-in-Ok-clause-wrote : goal.returns-in-Ok-clause-wrote
-returns-in-Ok-clause-wrote g c = λ view has.
+pub returns-in_ok-done-in-Some-take-clause-wrote : goal.returns-in_ok-done-in-Some-take-clause-wrote
+returns-in_ok-done-in-Some-take-clause-wrote g c = λ view has.
     let s = g.C.Cluster.shown c.args.cluster.now in
     let t = g.C.Cluster.shown c.close.new.cluster in
     let w = c.args.self.now in
     let going : w.going ≡ Some c.in-Some-take.block = sym c.take-2.ensures.value ∙ c.in-Some-take.is in
     ended_wrote (see view s) (see view t) (shows_seen view IsSound s (g.met.C.Cluster.sound c.args.cluster.now))
     (shows_seen view IsSound t (g.met.C.Cluster.sound c.close.new.cluster)) w c.in-Some-take.block going
-    (record w { last = Some c.in-Ok.block; going = c.take-2.new.self; reopened = c.take.new.self })
-    (record { path = refl; file_id = refl; sizes = refl }) (record { none = c.take-2.ensures.after; done = c.take.ensures.after }) c.in-Ok.block refl
-    (c.in-Ok.ensures.closed view has)
+    (record w { last = Some c.in_ok-done-in-Some-take.done; going = c.take-2.new.self; reopened = c.take.new.self })
+    (record { path = refl; file_id = refl; sizes = refl }) (record { none = c.take-2.ensures.after; done = c.take.ensures.after }) c.in_ok-done-in-Some-take.done refl
+    (c.in_ok-done-in-Some-take.ensures.closed view has)
 
-pub returns-in-Err-clause-err : goal.returns-in-Err-clause-err
-returns-in-Err-clause-err g c = λ view has.
+pub returns-in_err-done-in-Some-take-clause-err : goal.returns-in_err-done-in-Some-take-clause-err
+returns-in_err-done-in-Some-take-clause-err g c =
+    let p = err_from_is_err_and c.from_residual.result c.from_residual.ensures.1 in
+    rw (p.1, p.2) (λ view has.
     let s = g.C.Cluster.shown c.args.cluster.now in
     let t = g.C.Cluster.shown c.close.new.cluster in
     let w = c.args.self.now in
     let block = c.in-Some-take.block in
     let going : w.going ≡ Some block = sym c.take-2.ensures.value ∙ c.in-Some-take.is in
-    subst (λ (e : HdfsError). FailsOtherwise (see view s) w e (see view t)) (sym c.error_of.ensures)
-    (gave_up_fails (see view s) (see view t) (shows_seen view IsSound s (g.met.C.Cluster.sound c.args.cluster.now))
+    gave_up_fails (see view s) (see view t) (shows_seen view IsSound s (g.met.C.Cluster.sound c.args.cluster.now))
     (shows_seen view IsSound t (g.met.C.Cluster.sound c.close.new.cluster)) w block going (c.requires.may.stands.is_open c.requires.fine block going)
-    (block_seen view s (c.requires.may.stands.going block going)) c.in-Err.fault (c.in-Err.ensures.err view has))
+    (block_seen view s (c.requires.may.stands.going block going)) c.in_err-done-in-Some-take.field-0.0 (c.in_err-done-in-Some-take.ensures.err view has))
 
 pub returns-in-Some-clause-answered : goal.returns-in-Some-clause-answered
 returns-in-Some-clause-answered g c =
@@ -102,12 +103,12 @@ returns-in-Some-clause-answered g c =
     none c.take.ensures.after c.requires.may.answered
     (λ fine. answered_left c.in-Some.located (answered_reopened w none reopened c.requires.may.answered))
 
-pub returns-in-Ok-clause-answered : goal.returns-in-Ok-clause-answered
-returns-in-Ok-clause-answered g c =
+pub returns-in_ok-done-in-Some-take-clause-answered : goal.returns-in_ok-done-in-Some-take-clause-answered
+returns-in_ok-done-in-Some-take-clause-answered g c =
     let w = c.args.self.now in
     let block = c.in-Some-take.block in
     let going : w.going ≡ Some block = sym c.take-2.ensures.value ∙ c.in-Some-take.is in
-    answered_idle w (record w { last = Some c.in-Ok.block; going = c.take-2.new.self; reopened = c.take.new.self })
+    answered_idle w (record w { last = Some c.in_ok-done-in-Some-take.done; going = c.take-2.new.self; reopened = c.take.new.self })
     (record { path = refl; file_id = refl; sizes = refl }) c.take-2.ensures.after c.take.ensures.after c.requires.may.answered
-    (λ fine. answered_closed block c.in-Ok.block (c.requires.may.stands.is_open c.requires.fine block going) (answered_going w going c.requires.may.answered)
-    c.in-Ok.ensures.answered)
+    (λ fine. answered_closed block c.in_ok-done-in-Some-take.done (c.requires.may.stands.is_open c.requires.fine block going) (answered_going w going c.requires.may.answered)
+    c.in_ok-done-in-Some-take.ensures.answered)

@@ -1,15 +1,14 @@
 -- The goals of FileWriter::make_room.
 use Rattle.std.proofs.Common.{[], ap, sym, ◌∙◌, subst, ◌≡◌, None, Some, Option, IsSome, refl, false}
-use Rattle.std.proofs.lemmas.Result.{IfErr-weaker, on_ok_weaker}
+use Rattle.std.proofs.lemmas.Result.{IfErr-weaker, err_from_is_err_and, on_ok_weaker}
 use Rattle.std.proofs.lemmas.Bool.{false≢true}
 use Rattle.std.specs.Prelude.{IfSome}
-use Rattle.hdfs_cluster.specs.declared.errors.HdfsError.{HdfsError}
 use Rattle.hdfs_cluster.specs.declared.messages.LocatedBlock.{LocatedBlock}
 use Rattle.hdfs_cluster.specs.Namenode.{IsToWrite}
 use Rattle.hdfs_namenode.specs.Clients.{name_of}
 use Rattle.hdfs_namenode.specs.Views.{see}
 use Rattle.hdfs_file_writer.specs.declared.file_writer.FileWriter.{FileWriter}
-use Rattle.hdfs_file_writer.specs.Writers.{FailsOtherwise, HasRoom, IsToOpen, MayFinish, Wrote}
+use Rattle.hdfs_file_writer.specs.Writers.{HasRoom, IsToOpen, MayFinish, Wrote}
 use Rattle.hdfs_file_writer.proofs.Joining.{wrote_nothing}
 use Rattle.hdfs_file_writer.proofs.Standing.{full_without_room}
 use Rattle.hdfs_file_writer.proofs.Allowed.{may_finish, answered_reopened}
@@ -73,8 +72,8 @@ returns-clause-keeps g c =
     keeps_behind g.C.Cluster.shown c.args.cluster.now c.finish_block.new.cluster c.finish_block.ensures.keeps.2
     (c.take_reopened.ensures.none c.in-None.is) c.in_ok-finish_block.ensures.wrote c.begin_block.new.self c.begin_block.new.namenode c.begin_block.ensures.keeps
 
-pub returns-in-Ok-clause-wrote : goal.returns-in-Ok-clause-wrote
-returns-in-Ok-clause-wrote g c = λ view has.
+pub returns-in-Some-clause-wrote : goal.returns-in-Some-clause-wrote
+returns-in-Some-clause-wrote g c = λ view has.
     let s = g.C.Cluster.shown c.args.cluster.now in
     let t = g.C.Cluster.shown c.open_block.new.cluster in
     let w = c.args.self.now in
@@ -84,17 +83,18 @@ returns-in-Ok-clause-wrote g c = λ view has.
     let same : record c.take_reopened.new.self { reopened = Some located } ≡ w =
     ap (λ (x : FileWriter). record x { reopened = Some located }) some.2
     ∙ ap (λ (o : Option LocatedBlock). record w { reopened = o }) (sym some.0) in
-    wrote_seen view none (subst (λ (x : FileWriter). Wrote s x [] t c.open_block.new.self) same c.in-Ok.ensures.wrote)
+    wrote_seen view none (subst (λ (x : FileWriter). Wrote s x [] t c.open_block.new.self) same c.in_ok-open_block-in-Some.ensures.wrote)
 
-pub returns-in-Err-clause-err : goal.returns-in-Err-clause-err
-returns-in-Err-clause-err g c = λ view has.
+pub returns-in_err-open_block-in-Some-clause-err : goal.returns-in_err-open_block-in-Some-clause-err
+returns-in_err-open_block-in-Some-clause-err g c =
+    let p = err_from_is_err_and c.from_residual.result c.from_residual.ensures.1 in
+    rw (p.1, p.2) (λ view has.
     let s = see view (g.C.Cluster.shown c.args.cluster.now) in
     let t = see view (g.C.Cluster.shown c.open_block.new.cluster) in
     let w = c.args.self.now in
     let some = c.in-Some.ensures.some in
     let none : w.going ≡ None = c.requires.may.stands.apart (subst IsSome (sym some.0) refl) in
-    subst (λ (e : HdfsError). FailsOtherwise s w e t) (sym c.error_of.ensures)
-    (reopened_fails s t w c.in-Some.located none some.0 (name_of c.args.namenode.now) c.in-Err.fault (not_set_up_seen view c.in-Err.ensures.err.1))
+    reopened_fails s t w c.in-Some.located none some.0 (name_of c.args.namenode.now) c.in_err-open_block-in-Some.field-0.0 (not_set_up_seen view c.in_err-open_block-in-Some.ensures.err.1))
 
 pub returns-then-has_room-clause-wrote : goal.returns-then-has_room-clause-wrote
 returns-then-has_room-clause-wrote g c = λ view has. wrote_nothing (see view (g.C.Cluster.shown c.args.cluster.now)) c.args.self.now
