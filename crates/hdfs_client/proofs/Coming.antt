@@ -1,5 +1,5 @@
 -- What an ask of a client came to, where the service to which the path leads is whole.
-use Rattle.std.proofs.Common.{◌≡◌, inl, inr, ℕ, ◌<◌, Bool, List, Some, sym, subst}
+use Rattle.std.proofs.Common.{◌≡◌, ℕ, ◌<◌, Bool, List, Some, subst}
 use Rattle.std.specs.Prelude.{Result}
 use Rattle.hdfs_cluster.specs.declared.asks.Answer.{Answer}
 use Rattle.hdfs_cluster.specs.declared.asks.Ask.{Ask}
@@ -8,13 +8,9 @@ use Rattle.hdfs_cluster.specs.declared.errors.HdfsError.{HdfsError}
 use Rattle.hdfs_cluster.specs.Picture.{Picture}
 use Rattle.hdfs_cluster.specs.Shown.{Served, Shown}
 use Rattle.hdfs_names.specs.declared.mounts.Resolved.{Resolved}
-use Rattle.hdfs_namenode.specs.Asked.{AskedOnce, ReachesAll, Through}
 use Rattle.hdfs_namenode.specs.Clients.{through}
 use Rattle.hdfs_namenode.specs.Relaying.{Came}
-use Rattle.hdfs_namenode.specs.Views.{Whole}
-use Rattle.hdfs_namenode.proofs.Comings.{came}
-use Rattle.hdfs_namenode.proofs.Relayed.{came_nothing}
-use Rattle.hdfs_namenode.proofs.Services.{reaches_service}
+use Rattle.hdfs_opening.proofs.Coming.{came_once}
 use Rattle.hdfs_client.specs.Clients.{AsksAt, leads_to}
 use Rattle.hdfs_client.specs.Writing.{ReachesWhole}
 use Rattle.hdfs_client.specs.declared.client.Client.{Client}
@@ -22,14 +18,6 @@ use Rattle.hdfs_client.specs.declared.client.Client.{Client}
 module _ {C : Type 0} {shown : C → Shown} {serves : C → ℕ → Ask → Result Answer AskFault → C → Type 0}
     (rows : (old new : C) (i : ℕ) (ask : Ask) (result : Result Answer AskFault) → serves old i ask result new → Served (shown old) i ask result (shown new))
     (below : (c : C) (p : Picture) → (shown c).picture ≡ Some p → p.active < (shown c).namenodes) where
-  -- an ask of a service that is whole
-  pub came_once : (write : Bool) (ask : Ask) (old new : Through C) (outcome : Result Answer HdfsError) → ReachesAll old.proxy (shown old.cluster)
-      → AskedOnce serves write ask old outcome new → Came (shown old.cluster) ask outcome (shown new.cluster)
-  came_once write ask old new outcome reaches (inl asked) = came rows below (reaches_service old.proxy (shown old.cluster) reaches) asked Whole reaches
-  came_once write ask old new outcome reaches (inr none) =
-      subst (λ (t : Through C). Came (shown old.cluster) ask outcome (shown t.cluster)) (sym none.same)
-      (subst (λ (r : Result Answer HdfsError). Came (shown old.cluster) ask r (shown old.cluster)) (sym none.is) (came_nothing {s = shown old.cluster} {ask = ask}))
-
   -- the ask at the path that this is called where it leads
   pub came_at : {write : Bool} {ask : List ℕ → Ask} {client client' : Client} {src : List ℕ} {old new : C} {outcome : Result Answer HdfsError}
       → AsksAt serves write ask client src old outcome client' new → ReachesWhole client src (shown old) → (to : Resolved) → leads_to client src ≡ Some to
@@ -38,4 +26,4 @@ module _ {C : Type 0} {shown : C → Shown} {serves : C → ℕ → Ask → Resu
       let there = at.leads in
       let same : at.to ≡ to = cc (there, leads) in
       subst (λ (r : Resolved). Came (shown old) (ask r.path) outcome (shown new)) same
-      (came_once write (ask at.to.path) (through at.before old) (through at.after new) outcome (reaches at.to at.before at.leads at.was) at.asked)
+      (came_once rows below write (ask at.to.path) (through at.before old) (through at.after new) outcome (reaches at.to at.before at.leads at.was) at.asked)

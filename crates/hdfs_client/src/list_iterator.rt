@@ -126,7 +126,8 @@ impl DirListingIterator {
     ) -> Result<(), HdfsError>
         requires client { IsClientOf client.old (C.shown cluster.old) }
         requires allowed { LetsListAt C.allows (mounts_of client.old) (left_of self.old).path }
-        ensures opens { OnOk result (IsOpened C.may_answer (mounts_of client.old) (left_of self.old) (left_of self.new)) }
+        ensures opens { OnOk result (IsOpened C.may_answer (mounts_of client.old) (left_of self.old)
+            (left_of self.new)) }
         ensures path { (left_of self.new).path ≡ (left_of self.old).path }
         ensures asked { Gives C.serves false
             (λ at. asks.GetListing at (left_of self.old).start false) answers.GetListing
@@ -210,7 +211,8 @@ impl ListStatusIterator {
         cluster: &mut C,
     ) -> Option<Result<FileStatus, HdfsError>>
         requires client { IsClientOf client.old (C.shown cluster.old) }
-        requires allowed { LetsWalk C.allows C.may_answer (mounts_of client.old) self.old.recursive (begun_by self.old) }
+        requires allowed { LetsWalk C.allows C.may_answer (mounts_of client.old) self.old.recursive
+            (begun_by self.old) }
         ensures walks { Walks C.may_answer (mounts_of client.old)
             (IsDirFault C.serves client.new cluster.new) self.old.recursive
             (begun_by self.old) result (begun_by self.new) }
@@ -241,7 +243,8 @@ impl ListStatusIterator {
         cluster: &mut C,
     ) -> Option<Result<FileStatus, HdfsError>>
         requires client { IsClientOf client.old (C.shown cluster.old) }
-        requires allowed { LetsWalk C.allows C.may_answer (mounts_of client.old) self.old.recursive (begun_by self.old) }
+        requires allowed { LetsWalk C.allows C.may_answer (mounts_of client.old) self.old.recursive
+            (begun_by self.old) }
         ensures found { IsFoundIn C.may_answer (mounts_of client.old)
             (IsDirFault C.serves client.new cluster.new) (begun_by self.old) result (begun_by self.new) }
         ensures quiet { asks_none (begun_by self.old) ≡ true

@@ -67,8 +67,8 @@ impl Client {
     ) -> Result<DirList, HdfsError>
         requires client { IsClientOf self.old (C.shown cluster.old) }
         requires allowed { LetsListAt C.allows (mounts_of self.old) path.now }
-        ensures asked { Gives C.serves false (λ at. asks.GetListing at start.now false) answers.GetListing self.old path.now
-            cluster.old self.new cluster.new (λ found. IsPage path.now found result) }
+        ensures asked { Gives C.serves false (λ at. asks.GetListing at start.now false) answers.GetListing self.old
+            path.now cluster.old self.new cluster.new (λ found. IsPage path.now found result) }
         ensures answered { IfOk result (IsAnswered C.may_answer (mounts_of self.old) path.now start.now) }
         ensures rest { Stays self.old self.new }
         ensures files { KeepsFiles C.allows C.may_answer self.old (C.shown cluster.old) self.new

@@ -68,14 +68,14 @@ pub(crate) fn create_held<C: Cluster>(
     requires allowed { LetsCreate C.allows C.may_answer (IsKnown C.may_answer namenode.old) (name_of namenode.old)
         path options.now }
     requires limits { (are_options options.now ≡ true) × (1 ≤ rebuilding.window) × (rebuilding.window ≤ 1000) }
-    ensures created { IfOk result (λ held. CreatesBy C.may_answer C.serves path options.now rebuilding namenode.old cluster.old
-        held.file held.lease namenode.new cluster.new) }
+    ensures created { IfOk result (λ held. CreatesBy C.may_answer C.serves path options.now rebuilding namenode.old
+        cluster.old held.file held.lease namenode.new cluster.new) }
     ensures begins { IfOk result (λ held. Seen C.shown (through namenode.old cluster.old) cluster.new
         (λ old new. BeginsNew old path options.now held.file new)) }
     ensures stands { IfOk result (λ held. Stands (C.shown cluster.new) held.file
         × IsAnswered C.may_answer (name_of namenode.old) held.file) }
-    ensures err { IfErr result (λ error. FailsToCreate C.may_answer C.serves path options.now namenode.old cluster.old error
-        namenode.new cluster.new × KeepsLeases (leases_of namenode.old) (leases_of namenode.new)) }
+    ensures err { IfErr result (λ error. FailsToCreate C.may_answer C.serves path options.now namenode.old
+        cluster.old error namenode.new cluster.new × KeepsLeases (leases_of namenode.old) (leases_of namenode.new)) }
     ensures keeps { KeepsService namenode.old namenode.new × LeavesLinks (C.shown cluster.old) (C.shown cluster.new) }
 {
     let terms = terms_of(rebuilding);
@@ -104,8 +104,8 @@ pub(crate) fn append_held<C: Cluster>(
         (λ old new. BeginsAgain old path held.file new)) }
     ensures stands { IfOk result (λ held. Stands (C.shown cluster.new) held.file
         × IsAnswered C.may_answer (name_of namenode.old) held.file) }
-    ensures err { IfErr result (λ error. FailsToAppend C.shown C.may_answer C.serves path name.now namenode.old cluster.old error
-        namenode.new cluster.new × KeepsLeases (leases_of namenode.old) (leases_of namenode.new)) }
+    ensures err { IfErr result (λ error. FailsToAppend C.shown C.may_answer C.serves path name.now namenode.old
+        cluster.old error namenode.new cluster.new × KeepsLeases (leases_of namenode.old) (leases_of namenode.new)) }
     ensures keeps { KeepsService namenode.old namenode.new × LeavesLinks (C.shown cluster.old) (C.shown cluster.new) }
 {
     let terms = terms_of(rebuilding);

@@ -75,17 +75,19 @@ impl Client {
         requires allowed { LetsCreate C.allows C.may_answer self.old path.now options.now }
         ensures refused { are_options options.now ≡ false → (result ≡ Err (errors.InvalidArgument args.Options))
             × (self.new ≡ self.old) × (cluster.new ≡ cluster.old) }
-        ensures created { IfOk result (λ writer. OpensAt (λ at before file lease after. CreatesBy C.may_answer C.serves at options.now
-            (rebuilding_of self.old) before cluster.old file lease after cluster.new) self.old path.now writer self.new) }
+        ensures created { IfOk result (λ writer. OpensAt (λ at before file lease after. CreatesBy C.may_answer
+            C.serves at options.now (rebuilding_of self.old) before cluster.old file lease after cluster.new)
+            self.old path.now writer self.new) }
         ensures begins { IfOk result (λ writer. OpensAt (λ at before file lease after.
             Seen C.shown (through before cluster.old) cluster.new (λ old new. BeginsNew old at options.now file new))
             self.old path.now writer self.new) }
         ensures stands { IfOk result (λ writer. IsWriterOf self.new (C.shown cluster.new) writer
             × IsAnsweredTo C.may_answer self.new writer
-            × (ReachesWhole self.old path.now (C.shown cluster.old) → WritesWhole self.new (C.shown cluster.new) writer)) }
+            × (ReachesWhole self.old path.now (C.shown cluster.old) → WritesWhole self.new
+            (C.shown cluster.new) writer)) }
         ensures err { are_options options.now ≡ true → IfErr result (λ error. OpensNone (λ error at before after.
-            FailsToCreate C.may_answer C.serves at options.now before cluster.old error after cluster.new) self.old path.now
-            cluster.old error self.new cluster.new) }
+            FailsToCreate C.may_answer C.serves at options.now before cluster.old error after cluster.new) self.old
+            path.now cluster.old error self.new cluster.new) }
         ensures files { KeepsFiles C.allows C.may_answer self.old (C.shown cluster.old) self.new
             (C.shown cluster.new) }
         ensures client { IsClientOf self.new (C.shown cluster.new) }
@@ -119,16 +121,18 @@ impl Client {
         requires client { IsClientOf self.old (C.shown cluster.old) }
         requires allowed { LetsAppend C.allows C.may_answer self.old path.now }
         ensures opened { IfOk result (λ writer. OpensAt (λ at before file lease after. OpensBy C.may_answer C.serves at
-            (rebuilding_of self.old) before cluster.old file lease after cluster.new) self.old path.now writer self.new) }
+            (rebuilding_of self.old) before cluster.old file lease after cluster.new) self.old path.now writer
+            self.new) }
         ensures begins { IfOk result (λ writer. OpensAt (λ at before file lease after.
             Seen C.shown (through before cluster.old) cluster.new (λ old new. BeginsAgain old at file new))
             self.old path.now writer self.new) }
         ensures stands { IfOk result (λ writer. IsWriterOf self.new (C.shown cluster.new) writer
             × IsAnsweredTo C.may_answer self.new writer
-            × (ReachesWhole self.old path.now (C.shown cluster.old) → WritesWhole self.new (C.shown cluster.new) writer)) }
+            × (ReachesWhole self.old path.now (C.shown cluster.old) → WritesWhole self.new
+            (C.shown cluster.new) writer)) }
         ensures err { IfErr result (λ error. OpensNone (λ error at before after.
-            FailsToAppend C.shown C.may_answer C.serves at path.now before cluster.old error after cluster.new) self.old path.now
-            cluster.old error self.new cluster.new) }
+            FailsToAppend C.shown C.may_answer C.serves at path.now before cluster.old error after cluster.new)
+            self.old path.now cluster.old error self.new cluster.new) }
         ensures files { KeepsFiles C.allows C.may_answer self.old (C.shown cluster.old) self.new
             (C.shown cluster.new) }
         ensures client { IsClientOf self.new (C.shown cluster.new) }
@@ -175,8 +179,8 @@ impl FileWriter {
             × (client.new ≡ client.old)
             × (cluster.new ≡ cluster.old) }
         ensures wrote { IfOk result (λ n. (n ≡ length bytes.now) × GoesOn (λ file file'.
-            SeenBy C.shown client.old self.old cluster.old cluster.new (λ old new. inner.Wrote old file bytes.now new file'))
-            self.old self.new) }
+            SeenBy C.shown client.old self.old cluster.old cluster.new (λ old new. inner.Wrote old file bytes.now new
+            file')) self.old self.new) }
         ensures plain { IfOk result (λ n. (file : Inner) → open_of self.old ≡ Some file → bytes.now ≢ []
             → (inner.sizes_of file).encrypted ≡ false) }
         ensures state { GoesOn (λ file file'. inner.IsIdle file bytes.now cluster.old result file' cluster.new
@@ -235,7 +239,8 @@ impl FileWriter {
             → (result ≡ Err errors.Failed) × (cluster.new ≡ cluster.old) }
         ensures err { IfErr result (λ error. (file : Inner) → open_of self.old ≡ Some file
             → inner.has_failed file ≡ false
-            → SeenBy C.shown client.old self.old cluster.old cluster.new (λ old new. inner.FailsToClose old file error new)) }
+            → SeenBy C.shown client.old self.old cluster.old cluster.new
+            (λ old new. inner.FailsToClose old file error new)) }
         ensures shut { (open_of self.new ≡ None) × (is_closed self.new ≡ is_ok result)
             × (OnErr result (lease_of self.new ≡ lease_of self.old))
             × (is_some (open_of self.old) ≡ true → OnOk result (lease_of self.new ≡ None)) }

@@ -35,7 +35,7 @@ use Rattle.hdfs_namenode.specs.Asked.{AskedOnce, ReachesAll}
 use Rattle.hdfs_namenode.specs.Clients.{defaults_of as kept_by, name_of, proxy_of, through}
 use Rattle.hdfs_namenode.specs.Relaying.{Came}
 use Rattle.hdfs_namenode.specs.declared.protocol.NamenodeProtocol.{NamenodeProtocol}
-use Rattle.hdfs_file_writer.specs.Tails.{Bare}
+use Rattle.hdfs_file_writer.specs.declared.tails.Tail.TheVariants.{Bare}
 use Rattle.hdfs_file_writer.specs.Writers.{sizes_of, tail_of}
 use Rattle.hdfs_file_writer.specs.declared.file_writer.FileWriter as inner
 use Rattle.hdfs_file_writer.specs.declared.sizes.WriteSizes.{WriteSizes}
@@ -47,12 +47,11 @@ use Rattle.hdfs_client.specs.Opening.{CreatesBy, FailsToCreate, LacksLease}
 use Rattle.hdfs_client.specs.Writing.{OpensAt, OpensNone, rebuilding_of}
 use Rattle.hdfs_client.specs.declared.client.Client.{Client}
 use Rattle.hdfs_client.specs.declared.writing.FileWriter.{FileWriter}
-use Rattle.hdfs_client.proofs.Coming.{came_once}
+use Rattle.hdfs_opening.proofs.Coming.{came_once, reaches_between}
 use Rattle.hdfs_commands.specs.Meeting.{KnowsDefaults}
 use Rattle.hdfs_commands.proofs.Begun.{Begun, create_begun}
 use Rattle.hdfs_commands.proofs.Failing.{create_still}
 use Rattle.hdfs_commands.proofs.Opening.{Over, create_over, made, may_be_made, was_made, was_plain}
-use Rattle.hdfs_commands.proofs.Prepared.{reaches_between}
 use Rattle.hdfs_commands.proofs.Refusing.{create_step, kinds_same}
 use Rattle.hdfs_commands.proofs.WithWriting.{clear_to_create}
 use Rattle.hdfs_cluster.specs.Namenode.{MayBeDone}

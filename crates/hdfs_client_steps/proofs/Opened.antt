@@ -1,14 +1,12 @@
 -- A command that opens a file, behind the ask for the cluster's defaults: what these are over a told picture, and what is so of an error and of a
 -- reply.
-use Rattle.std.proofs.Common.{◌≡◌, ◌≢◌, ◌⊎◌, inl, inr, ℕ, ◌<◌, ◌==◌, Bool, true, false, List, [], ◌∷◌, Option, Some, None, Ok, Err, refl, sym, ◌∙◌, ap, subst}
+use Rattle.std.proofs.Common.{◌≡◌, ◌≢◌, ◌⊎◌, inl, inr, ℕ, ◌<◌, ◌==◌, Bool, true, false, List, [], ◌∷◌, Option, Some, Ok, Err, sym, ◌∙◌, ap, subst}
 use Rattle.std.proofs.lemmas.Bool.{cases_Bool, false≢true}
 use Rattle.std.proofs.lemmas.Bool.Decides.{Decides-eqb}
 use Rattle.std.specs.Prelude.{◌||◌, IfSome, Result}
 use Rattle.std.specs.Str.{bytes_eq}
 use Rattle.hdfs_cluster.specs.declared.asks.Answer.{Answer}
-use Rattle.hdfs_cluster.specs.declared.asks.Answer.TheVariants as answers
 use Rattle.hdfs_cluster.specs.declared.asks.Ask.{Ask}
-use Rattle.hdfs_cluster.specs.declared.asks.Ask.TheVariants as asks
 use Rattle.hdfs_cluster.specs.declared.asks.AskFault.{AskFault}
 use Rattle.hdfs_cluster.specs.declared.errors.ArgFault.TheVariants as args
 use Rattle.hdfs_cluster.specs.declared.errors.HdfsError.{HdfsError}
@@ -35,14 +33,13 @@ use Rattle.hdfs_model.specs.Scenes.{Ready}
 use Rattle.hdfs_model.specs.Sessions.{IsLimited, SameOpened, defaults_of, is_before_asking, spared}
 use Rattle.hdfs_model.specs.Steps.{Done, World, is_opened, step, target_of, with_writing}
 use Rattle.hdfs_namenode.specs.Asked.{ReachesAll}
-use Rattle.hdfs_namenode.specs.Clients.{defaults_of as kept_by, proxy_of, through}
-use Rattle.hdfs_namenode.specs.Relaying.{Came, CameCached, RelaysTold, TellsAsk}
+use Rattle.hdfs_namenode.specs.Clients.{defaults_of as kept_by, proxy_of}
+use Rattle.hdfs_namenode.specs.Relaying.{Came, RelaysTold, TellsAsk}
 use Rattle.hdfs_namenode.specs.declared.protocol.NamenodeProtocol.{NamenodeProtocol}
-use Rattle.hdfs_namenode.specs.declared.proxy.NameServiceProxy.{NameServiceProxy}
 use Rattle.hdfs_namenode.proofs.Relayed.{relayed_done}
-use Rattle.hdfs_namenode.proofs.Services.{asked_plain, reaches_later, same_service_refl}
 use Rattle.hdfs_file_reader.proofs.Transfers.{OnlyAsks, defaults_told, lacks_by, leaves_by}
-use Rattle.hdfs_file_writer.specs.Tails.{FileCarries, Tail}
+use Rattle.hdfs_file_writer.specs.Tails.{FileCarries}
+use Rattle.hdfs_file_writer.specs.declared.tails.Tail.{Tail}
 use Rattle.hdfs_file_writer.specs.Writers as files
 use Rattle.hdfs_file_writer.specs.declared.file_writer.FileWriter as inner
 use Rattle.hdfs_file_writer.specs.declared.sizes.WriteSizes.{WriteSizes}
@@ -52,6 +49,7 @@ use Rattle.hdfs_file_writer.specs.Sizing.{sizes_by}
 use Rattle.hdfs_client.specs.Writing.{OpensNone, ReachesWhole, open_of, rebuilding_of}
 use Rattle.hdfs_client.specs.declared.client.Client.{Client}
 use Rattle.hdfs_client.specs.declared.writing.FileWriter.{FileWriter}
+use Rattle.hdfs_opening.proofs.Coming.{has_cached, vain_cached}
 use Rattle.hdfs_commands.specs.Meeting.{KnowsDefaults}
 use Rattle.hdfs_commands.specs.Session.{CarriesFile}
 use Rattle.hdfs_commands.proofs.Acted.{or_flip, spares_but}
@@ -59,7 +57,6 @@ use Rattle.hdfs_commands.proofs.Agreeing.{agrees_but, agrees_files, agrees_told}
 use Rattle.hdfs_commands.proofs.Begun.{Begun}
 use Rattle.hdfs_commands.proofs.Failing.{IsStill, may_be_done}
 use Rattle.hdfs_commands.proofs.Opening.{Over}
-use Rattle.hdfs_commands.proofs.Prepared.{has_cached, vain_cached}
 use Rattle.hdfs_commands.proofs.Refusing.{ask_not_early, exception_cause, rose_cause}
 use Rattle.hdfs_commands.proofs.Still.{file_stays}
 use Rattle.hdfs_commands.proofs.WithWriting.{writing_there}

@@ -40,7 +40,8 @@ use Rattle.hdfs_namenode.specs.declared.protocol.NamenodeProtocol.{NamenodeProto
 use Rattle.hdfs_namenode.specs.declared.proxy.NameServiceProxy.{NameServiceProxy}
 use Rattle.hdfs_namenode.proofs.Services.{asked_plain, reaches_later, reaches_service, same_service_refl, service_below}
 use Rattle.hdfs_file_writer.specs.OnlyFiles.{OnlyFile}
-use Rattle.hdfs_file_writer.specs.Tails.{FileCarries, Tail}
+use Rattle.hdfs_file_writer.specs.Tails.{FileCarries}
+use Rattle.hdfs_file_writer.specs.declared.tails.Tail.{Tail}
 use Rattle.hdfs_file_writer.specs.Writers.{TouchesFile, path_of, sizes_of, tail_of, tail_opened}
 use Rattle.hdfs_file_writer.specs.declared.file_writer.FileWriter as inner
 use Rattle.hdfs_file_writer.specs.declared.sizes.WriteSizes.{WriteSizes}
@@ -53,14 +54,13 @@ use Rattle.hdfs_client.specs.Opening.{FailsToAppend, OpensBy}
 use Rattle.hdfs_client.specs.Writing.{OpensAt, OpensNone, rebuilding_of}
 use Rattle.hdfs_client.specs.declared.client.Client.{Client}
 use Rattle.hdfs_client.specs.declared.writing.FileWriter.{FileWriter}
-use Rattle.hdfs_client.proofs.Coming.{came_once}
+use Rattle.hdfs_opening.proofs.Coming.{came_once, reaches_between}
 use Rattle.hdfs_commands.specs.Meeting.{KnowsDefaults}
 use Rattle.hdfs_commands.proofs.Acted.{spares_but}
 use Rattle.hdfs_commands.proofs.Begun.{Begun, ClosedAt, closed_at, open_begun, opened_only}
 use Rattle.hdfs_commands.proofs.Failing.{append_still}
 use Rattle.hdfs_commands.proofs.OneFile.{apart_by_test}
 use Rattle.hdfs_commands.proofs.Opening.{Over, Reopened, append_over, may_be_reopened, was_reopened}
-use Rattle.hdfs_commands.proofs.Prepared.{reaches_between}
 use Rattle.hdfs_commands.proofs.Refusing.{append_step, kinds_same}
 use Rattle.hdfs_commands.proofs.Still.{file_stays}
 use Rattle.hdfs_commands.proofs.WithWriting.{closed_to_append}

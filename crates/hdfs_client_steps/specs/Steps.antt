@@ -31,7 +31,8 @@ use Rattle.hdfs_client.specs.declared.errors.ClientError.TheVariants.{Hdfs, Othe
 use Rattle.hdfs_client.specs.declared.status.FileStatus.{FileStatus}
 use Rattle.hdfs_namenode.specs.Clients.{defaults_of as kept_by}
 use Rattle.hdfs_namenode.specs.declared.protocol.NamenodeProtocol.{NamenodeProtocol}
-use Rattle.hdfs_file_writer.specs.Tails.{Tail, FileCarries}
+use Rattle.hdfs_file_writer.specs.Tails.{FileCarries}
+use Rattle.hdfs_file_writer.specs.declared.tails.Tail.{Tail}
 use Rattle.hdfs_commands.specs.Meeting.{KnowsDefaults}
 
 -- a program that has these paths open, over what a cluster shows

@@ -30,14 +30,16 @@ pub fn create<C: Cluster>(
     requires allowed { LetsCreate C.allows C.may_answer client.old path.now options.now }
     ensures refused { are_options options.now ≡ false → (result ≡ Err (errors.InvalidArgument args.Options))
         × (client.new ≡ client.old) × (cluster.new ≡ cluster.old) }
-    ensures created { IfOk result (λ writer. OpensAt (λ at before file lease after. CreatesBy C.may_answer C.serves at options.now
-        (rebuilding_of client.old) before cluster.old file lease after cluster.new) client.old path.now writer client.new) }
+    ensures created { IfOk result (λ writer. OpensAt (λ at before file lease after. CreatesBy C.may_answer C.serves
+        at options.now (rebuilding_of client.old) before cluster.old file lease after cluster.new) client.old
+        path.now writer client.new) }
     ensures stands { IfOk result (λ writer. IsWriterOf client.new (C.shown cluster.new) writer
         × IsAnsweredTo C.may_answer client.new writer
-        × (ReachesWhole client.old path.now (C.shown cluster.old) → WritesWhole client.new (C.shown cluster.new) writer)) }
+        × (ReachesWhole client.old path.now (C.shown cluster.old) → WritesWhole client.new
+        (C.shown cluster.new) writer)) }
     ensures err { are_options options.now ≡ true → IfErr result (λ error. OpensNone (λ error at before after.
-        FailsToCreate C.may_answer C.serves at options.now before cluster.old error after cluster.new) client.old path.now
-        cluster.old error client.new cluster.new) }
+        FailsToCreate C.may_answer C.serves at options.now before cluster.old error after cluster.new) client.old
+        path.now cluster.old error client.new cluster.new) }
     ensures does { OpensAs client.old path.now (λ at. commands.Create at options.now) replies.Created
         (C.shown cluster.old) client.new (C.shown cluster.new) result }
     ensures parts { KeepsParts client.old client.new }
@@ -57,13 +59,15 @@ pub fn append<C: Cluster>(
     requires client { IsClientOf client.old (C.shown cluster.old) }
     requires allowed { LetsAppend C.allows C.may_answer client.old path.now }
     ensures opened { IfOk result (λ writer. OpensAt (λ at before file lease after. OpensBy C.may_answer C.serves at
-        (rebuilding_of client.old) before cluster.old file lease after cluster.new) client.old path.now writer client.new) }
+        (rebuilding_of client.old) before cluster.old file lease after cluster.new) client.old path.now writer
+        client.new) }
     ensures stands { IfOk result (λ writer. IsWriterOf client.new (C.shown cluster.new) writer
         × IsAnsweredTo C.may_answer client.new writer
-        × (ReachesWhole client.old path.now (C.shown cluster.old) → WritesWhole client.new (C.shown cluster.new) writer)) }
+        × (ReachesWhole client.old path.now (C.shown cluster.old) → WritesWhole client.new
+        (C.shown cluster.new) writer)) }
     ensures err { IfErr result (λ error. OpensNone (λ error at before after.
-        FailsToAppend C.shown C.may_answer C.serves at path.now before cluster.old error after cluster.new) client.old path.now
-        cluster.old error client.new cluster.new) }
+        FailsToAppend C.shown C.may_answer C.serves at path.now before cluster.old error after cluster.new)
+        client.old path.now cluster.old error client.new cluster.new) }
     ensures does { OpensAs client.old path.now commands.Append replies.Appended
         (C.shown cluster.old) client.new (C.shown cluster.new) result }
     ensures parts { KeepsParts client.old client.new }
@@ -141,7 +145,8 @@ pub fn read<C: Cluster>(
 ) -> Result<Blob, HdfsError>
     requires client { IsClientOf client.old (C.shown cluster.old) }
     requires allowed { LetsReadAt C.allows C.may_answer client.old path.now len }
-    ensures does { ReadsAs client.old path.now offset len (C.shown cluster.old) client.new (C.shown cluster.new) result }
+    ensures does { ReadsAs client.old path.now offset len (C.shown cluster.old) client.new
+        (C.shown cluster.new) result }
     ensures count { IfOk result (λ bytes. length bytes ≡ len) }
     ensures parts { KeepsParts client.old client.new }
     ensures files { KeepsFiles C.allows C.may_answer client.old (C.shown cluster.old) client.new

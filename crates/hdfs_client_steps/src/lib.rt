@@ -36,7 +36,8 @@ pub fn mkdirs<C: Cluster>(
     requires allowed { LetsAt C.allows (λ at. asks.Mkdirs at permission create_parent) client.old path.now }
     ensures refused { is_permission permission ≡ false → (result ≡ Err (errors.InvalidArgument args.Options))
         × (client.new ≡ client.old) × (cluster.new ≡ cluster.old) }
-    ensures asked { is_permission permission ≡ true → Gives C.serves true (λ at. asks.Mkdirs at permission create_parent)
+    ensures asked { is_permission permission ≡ true → Gives C.serves true
+        (λ at. asks.Mkdirs at permission create_parent)
         answers.Mkdirs client.old path.now cluster.old client.new cluster.new (λ made. result ≡ done made) }
     ensures does { DoesAs client.old path.now (λ at. commands.Mkdirs at permission create_parent) (C.shown cluster.old)
         client.new (C.shown cluster.new)

@@ -15,7 +15,7 @@ use Rattle.hdfs_file_writer.specs.Writers as files
 use Rattle.hdfs_file_writer.specs.declared.file_writer.FileWriter.{FileWriter}
 use Rattle.hdfs_commands.specs.Session.{Stands, HasLink, writer_of}
 use Rattle.hdfs_commands.specs.declared.session.Session.{Session}
-use Rattle.hdfs_commands.proofs.Still.{writer_stands}
+use Rattle.hdfs_file_writer.proofs.Others.{stands_beside}
 
 -- the entry of a session's writers at an index
 abbrev pub IsAt : Session → ℕ → String Global → FileWriter → Type 0
@@ -111,7 +111,7 @@ module _ (session : Session) (ordered : IsOrdered string_cmp session.writers) wh
         none = λ link none. own.none link (inl (left.none link none)) (λ its. absurd (cc its));
         ended = λ link has. ⊎_elim (λ none. inl (own.none link (inl none) (λ its. absurd (cc its)))) (λ some. ended_next link some) (left.ended link has);
         stands = λ i key' writer' after is'.
-            writer_stands now next writer'
+            stands_beside now next writer'
             (λ link has. stays link
             (λ its. stands.apart (string_bytes key) (string_bytes key') writer writer' (found n key writer is) (found i key' writer' is') (keys_apart n i key key' writer writer' (omega (arith, after)) is is') link its has))
             (left.stands i key' writer' (omega (arith, after)) is');

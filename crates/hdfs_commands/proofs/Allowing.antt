@@ -15,7 +15,9 @@ use Rattle.hdfs_model.specs.declared.commands.Command.{Command}
 use Rattle.hdfs_model.specs.declared.commands.Command.TheVariants as commands
 use Rattle.hdfs_cluster.specs.declared.messages.ServerDefaults.{ServerDefaults}
 use Rattle.hdfs_namenode.specs.Clients.{defaults_of, name_of}
-use Rattle.hdfs_file_writer.specs.Tails.{Tail, Bare, Finished, Reopened, Going}
+use Rattle.hdfs_file_writer.specs.Tails.{last_of}
+use Rattle.hdfs_file_writer.specs.declared.tails.Tail.{Tail}
+use Rattle.hdfs_file_writer.specs.declared.tails.Tail.TheVariants.{Bare, Done, Reopened, Going}
 use Rattle.hdfs_file_writer.specs.Writers.{IsAnsweredPlan, IsAnsweredTail, file_id_of, path_of, tail_of}
 use Rattle.hdfs_commands.specs.Asking.{AreAnswered, LetsAny, LetsAt}
 use Rattle.hdfs_commands.specs.declared.session.Session.{Session}
@@ -149,7 +151,7 @@ module _ {may_answer : Ask → Answer → Type 0} (all : (ask : Ask) (answer : A
 
   any_tail : (client path : List ℕ) (file_id : Option ℕ) (tail : Tail) → IsAnsweredTail may_answer client path file_id tail
   any_tail client path file_id Bare = tt
-  any_tail client path file_id (Finished id length) = tt
+  any_tail client path file_id (Done block) = tt
   any_tail client path file_id (Reopened located) = any_reopened client path located
   any_tail client path file_id (Going block) = λ pipe is. any_plan client path file_id pipe.plan
 
@@ -162,7 +164,7 @@ module _ {may_answer : Ask → Answer → Type 0} (all : (ask : Ask) (answer : A
     files = λ path writer is. record {
       id = any_id (name_of session.namenode) (path_of writer) (file_id_of writer);
       block = any_tail (name_of session.namenode) (path_of writer) (file_id_of writer) (tail_of writer);
-      last = λ fine. any_last (name_of session.namenode) (path_of writer) (file_id_of writer) writer.last;
+      last = λ fine. any_last (name_of session.namenode) (path_of writer) (file_id_of writer) (last_of writer.tail);
     };
     defaults = any_defaults (defaults_of session.namenode);
   }

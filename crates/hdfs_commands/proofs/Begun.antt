@@ -19,7 +19,9 @@ use Rattle.hdfs_cluster.specs.Sound.{IsSound, IsFileAt}
 use Rattle.hdfs_model.specs.Steps.{with_writing}
 use Rattle.hdfs_cluster.specs.Stores.{AgreesAt, StoresBlocks}
 use Rattle.hdfs_file_writer.specs.OnlyFiles.{OnlyFile}
-use Rattle.hdfs_file_writer.specs.Tails.{Tail, Bare, FileCarries}
+use Rattle.hdfs_file_writer.specs.Tails.{FileCarries}
+use Rattle.hdfs_file_writer.specs.declared.tails.Tail.{Tail}
+use Rattle.hdfs_file_writer.specs.declared.tails.Tail.TheVariants.{Bare}
 use Rattle.hdfs_file_writer.specs.Writers.{tail_opened}
 use Rattle.hdfs_file_writer.proofs.Adding.{named_after}
 use Rattle.hdfs_file_writer.proofs.Creating.{created_keeps, created_others}

@@ -17,7 +17,8 @@ use Rattle.hdfs_cluster.specs.Sound.{IsSound}
 use Rattle.hdfs_cluster.specs.Stores.{AgreesBut}
 use Rattle.hdfs_cluster.proofs.Frames.{later_trans, same_reads_trans}
 use Rattle.hdfs_file_writer.specs.OnlyFiles.{OnlyFile}
-use Rattle.hdfs_file_writer.specs.Tails.{FileCarries, Tail}
+use Rattle.hdfs_file_writer.specs.Tails.{FileCarries}
+use Rattle.hdfs_file_writer.specs.declared.tails.Tail.{Tail}
 use Rattle.hdfs_file_writer.specs.Writers as files
 use Rattle.hdfs_file_writer.specs.declared.file_writer.FileWriter.{FileWriter}
 use Rattle.hdfs_file_writer.proofs.Others.{agrees_others, carries_others}

@@ -15,7 +15,7 @@ use Rattle.hdfs_commands.specs.Preparing.{Remembers}
 use Rattle.hdfs_commands.specs.Session.{HasLink, IsSized, OnlyOwnLinks, Stands, writer_of, opened_of}
 use Rattle.hdfs_commands.specs.declared.session.Session.{Session}
 use Rattle.hdfs_commands.proofs.Sized.{named_still, reaches_still, sized_still}
-use Rattle.hdfs_commands.proofs.Still.{writer_stands}
+use Rattle.hdfs_file_writer.proofs.Others.{stands_beside}
 
 module _ (old new : Shown) (same : (link : ℕ) → new.writes link ≡ old.writes link) where
   module _ (session session' : Session) (writers_same : (path : List ℕ) → writer_of session' path ≡ writer_of session path) where
@@ -24,7 +24,7 @@ module _ (old new : Shown) (same : (link : ℕ) → new.writes link ≡ old.writ
         → Stands new session'
     session_moved count remembers fine stands = record {
       limited = ap are_settings remembers.settings ∙ stands.limited;
-      each = λ path writer is. (let h = stands.each path writer (sym (writers_same path) ∙ is) in (writer_stands old new writer (λ link has. same link) h.0, h.1));
+      each = λ path writer is. (let h = stands.each path writer (sym (writers_same path) ∙ is) in (stands_beside old new writer (λ link has. same link) h.0, h.1));
       fine = λ failed path writer is. stands.fine (fine failed) path writer (sym (writers_same path) ∙ is);
       apart = λ path other writer writer' is is'. stands.apart path other writer writer' (sym (writers_same path) ∙ is) (sym (writers_same other) ∙ is');
       reaches = reaches_still session session' remembers old new count stands.reaches;

@@ -34,7 +34,8 @@ use Rattle.hdfs_model.proofs.Removing.{delete_agrees, stays}
 use Rattle.hdfs_names.specs.Paths.{root, ancestors, is_path}
 use Rattle.hdfs_namenode.specs.Relaying.{Came, RelaysTold}
 use Rattle.hdfs_namenode.proofs.Relayed.{relayed_row}
-use Rattle.hdfs_file_writer.specs.Tails.{Tail, FileCarries}
+use Rattle.hdfs_file_writer.specs.Tails.{FileCarries}
+use Rattle.hdfs_file_writer.specs.declared.tails.Tail.{Tail}
 use Rattle.hdfs_file_writer.proofs.Others.{tail_stays}
 use Rattle.hdfs_commands.proofs.Agreeing.{agrees_files}
 use Rattle.hdfs_commands.proofs.Opening.{Over, open_apart, or_false}

@@ -9,7 +9,8 @@ use Rattle.hdfs_cluster.specs.Picture.{Picture}
 use Rattle.hdfs_cluster.specs.Sound.{IsSound}
 use Rattle.hdfs_cluster.specs.Stores.{Agrees, AgreesAt, AgreesBut}
 use Rattle.hdfs_file_writer.specs.OnlyFiles.{OnlyFile, SameFile}
-use Rattle.hdfs_file_writer.specs.Tails.{Tail, FileCarries}
+use Rattle.hdfs_file_writer.specs.Tails.{FileCarries}
+use Rattle.hdfs_file_writer.specs.declared.tails.Tail.{Tail}
 use Rattle.hdfs_file_writer.proofs.Others.{agrees_others}
 
 -- what agrees at each path agrees

@@ -31,7 +31,8 @@ use Rattle.hdfs_namenode.proofs.Relayed.{relayed_row}
 use Rattle.hdfs_model.specs.Opening.{tells_encryption}
 use Rattle.hdfs_model.specs.Opening.{appending, creating}
 use Rattle.hdfs_commands.proofs.Agreeing.{agrees_files}
-use Rattle.hdfs_file_writer.specs.Tails.{Tail, FileCarries}
+use Rattle.hdfs_file_writer.specs.Tails.{FileCarries}
+use Rattle.hdfs_file_writer.specs.declared.tails.Tail.{Tail}
 use Rattle.hdfs_file_writer.proofs.Creating.{created_others}
 use Rattle.hdfs_file_writer.proofs.Others.{carries_others}
 use Rattle.hdfs_commands.proofs.Still.{file_stays}

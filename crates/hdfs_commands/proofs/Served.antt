@@ -44,7 +44,8 @@ use Rattle.hdfs_commands.specs.declared.session.Session.{Session}
 use Rattle.hdfs_commands.proofs.Answered.{answered_put, answered_same}
 use Rattle.hdfs_commands.proofs.Beginning.{AsksFile, Begins, GoesOn, IsAskOf, IsRefusal, KeepsWriter, append_asks, create_asks, encrypted_create, making, reopening, undefaulted_executes, unkept_executes, unlimited_executes, unstated_append, vain_executes}
 use Rattle.hdfs_commands.proofs.Encrypting.{encrypted_append, only_touches}
-use Rattle.hdfs_commands.proofs.Prepared.{came_once, has_cached, reaches_between, told_known, vain_cached}
+use Rattle.hdfs_opening.proofs.Coming.{came_once, has_cached, reaches_between, vain_cached}
+use Rattle.hdfs_commands.proofs.Prepared.{told_known}
 use Rattle.hdfs_commands.proofs.Starting.{appended_executes, created_executes}
 
 -- what an encrypted file is refused with

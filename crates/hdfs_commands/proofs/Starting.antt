@@ -27,7 +27,9 @@ use Rattle.hdfs_cluster.specs.Shown.{Shown}
 use Rattle.hdfs_model.specs.Steps.{Done, World, append_file, create_file, created, is_opened, open_node, step, target_of, with_writing}
 use Rattle.hdfs_cluster.specs.Stores.{AgreesAt}
 use Rattle.hdfs_cluster.proofs.Frames.{told_after}
-use Rattle.hdfs_file_writer.specs.Tails.{Tail, tail_length, Bare}
+use Rattle.hdfs_file_writer.specs.Tails.{tail_length}
+use Rattle.hdfs_file_writer.specs.declared.tails.Tail.{Tail}
+use Rattle.hdfs_file_writer.specs.declared.tails.Tail.TheVariants.{Bare}
 use Rattle.hdfs_file_writer.specs.Writers as files
 use Rattle.hdfs_file_writer.specs.declared.file_writer.FileWriter.{FileWriter}
 use Rattle.hdfs_file_writer.specs.declared.sizes.WriteSizes.{WriteSizes}

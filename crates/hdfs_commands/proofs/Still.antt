@@ -5,36 +5,13 @@ use Rattle.hdfs_cluster.specs.Files.{State}
 use Rattle.hdfs_cluster.specs.Picture.{Picture, SameFiles}
 use Rattle.hdfs_model.specs.Sessions.{defaults_of}
 use Rattle.hdfs_cluster.specs.Shown.{Shown, SameWrites}
-use Rattle.hdfs_file_writer.proofs.Beside.{still_stands}
-use Rattle.hdfs_file_writer.specs.Tails.{Tail, FileCarries}
+use Rattle.hdfs_file_writer.specs.Tails.{FileCarries}
+use Rattle.hdfs_file_writer.specs.declared.tails.Tail.{Tail}
 use Rattle.hdfs_file_writer.specs.Writers as files
 use Rattle.hdfs_file_writer.specs.declared.file_writer.FileWriter.{FileWriter}
 use Rattle.hdfs_file_writer.proofs.Others.{tail_stays}
 use Rattle.hdfs_commands.specs.Session.{CarriesFile, Carried, defaults_known}
 use Rattle.hdfs_commands.specs.declared.session.Session.{Session}
-
--- The writer of a file stands still where its link stayed.
-pub writer_stands : (a b : Shown) (w : FileWriter) → ((link : ℕ) → files.link_of w ≡ Some link → b.writes link ≡ a.writes link) → files.Stands a w → files.Stands b w
-writer_stands a b w stays s = record {
-  packets = s.packets;
-  going = λ block is.
-      let g = s.going block is in
-      record {
-        limited = g.limited;
-        stands = still_stands a b block (λ link has. stays link (ap files.link_by is ∙ has)) g.stands;
-        size = g.size;
-        chunk = g.chunk;
-        packet_size = g.packet_size;
-        settings = g.settings;
-        plain = g.plain;
-        plan = g.plan;
-      };
-  is_open = s.is_open;
-  idle = s.idle;
-  reopened = s.reopened;
-  apart = s.apart;
-  done = s.done;
-}
 
 -- What a writer carries it carries where the files and the write links are the same.
 module _ (p q : Picture) (same : SameFiles p q) (writes : SameWrites p q) where

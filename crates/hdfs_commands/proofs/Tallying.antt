@@ -13,7 +13,8 @@ use Rattle.hdfs_model.specs.declared.commands.Command.{Command}
 use Rattle.hdfs_model.specs.Causes.{CanEnd, Sends, Tells}
 use Rattle.hdfs_rebuild.specs.declared.block_plan.BlockPipeline.{BlockPipeline}
 use Rattle.hdfs_block_writer.specs.BlockWriters as blocks
-use Rattle.hdfs_block_writer.specs.declared.block_writer.BlockWriter.{BlockWriter}
+use Rattle.hdfs_file_writer.specs.declared.tails.Tail.{Tail}
+use Rattle.hdfs_file_writer.specs.declared.tails.Tail.TheVariants.{Going}
 use Rattle.hdfs_file_writer.specs.Writers as files
 use Rattle.hdfs_file_writer.specs.declared.file_writer.FileWriter.{FileWriter}
 use Rattle.hdfs_commands.specs.Session.{Tallied, writer_of}
@@ -26,14 +27,14 @@ none_in : (pipe : Option BlockPipeline) → blocks.link_in pipe ≡ None → blo
 none_in None idle = refl
 none_in (Some pipe) idle = absurd (cc idle)
 
-none_by : (going : Option BlockWriter) → files.link_by going ≡ None → files.rebuilds_by going ≡ 0
-none_by None idle = refl
-none_by (Some writer) idle = none_in writer.pipe idle
+none_by : (tail : Tail) → files.link_by tail ≡ None → files.rebuilds_by tail ≡ 0
+none_by (Going writer) idle = none_in writer.pipe idle
+none_by tail idle = refl
 
 -- so no datanode need have failed for it
 pub linkless_tallies : {start new : Shown} (writer : FileWriter) → files.link_of writer ≡ None → Later start new
     → NodesFailTimes (files.rebuilds_of writer) start new
-linkless_tallies {start} {new} writer idle later = subst (λ (n : ℕ). NodesFailTimes n start new) (sym (none_by writer.going idle)) later
+linkless_tallies {start} {new} writer idle later = subst (λ (n : ℕ). NodesFailTimes n start new) (sym (none_by writer.tail idle)) later
 
 -- a session with the same writers
 pub tallied_moved : {old new : Shown} {session session' : Session} → Later old new

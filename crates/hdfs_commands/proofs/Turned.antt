@@ -20,7 +20,8 @@ use Rattle.hdfs_model.specs.Sessions.{IsLimited, SameOpened, defaults_of, world_
 use Rattle.hdfs_model.specs.Steps.{Done, is_opened, step, target_of}
 use Rattle.hdfs_namenode.specs.Relaying.{Came}
 use Rattle.hdfs_file_reader.specs.Looking.{OnlyLooks}
-use Rattle.hdfs_file_writer.specs.Tails.{Tail, FileCarries}
+use Rattle.hdfs_file_writer.specs.Tails.{FileCarries}
+use Rattle.hdfs_file_writer.specs.declared.tails.Tail.{Tail}
 use Rattle.hdfs_file_writer.specs.Writers as files
 use Rattle.hdfs_file_writer.specs.declared.file_writer.FileWriter.{FileWriter}
 use Rattle.hdfs_commands.specs.Acting.{Acts, IsReady, world_at}

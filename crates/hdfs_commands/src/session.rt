@@ -163,6 +163,9 @@ impl Session {
         // After an error nothing more happens.
         ensures failed { has_failed self.old ≡ true
             → (result ≡ Err errors.Failed) × (cluster.new ≡ cluster.old) × (self.new ≡ self.old) }
+
+        // Whatever came of it, another command may be applied.
+        ensures stands { Stands (C.shown cluster.new) self.new × AreAnswered C.may_answer self.new }
     {
         if self.failed {
             return Err(HdfsError::Failed);

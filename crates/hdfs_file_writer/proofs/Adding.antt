@@ -14,7 +14,8 @@ use Rattle.hdfs_cluster.specs.Sending.{uuids}
 use Rattle.hdfs_cluster.specs.Sound.{IsSound, IsFileAt, IsBlockAt}
 use Rattle.hdfs_cluster.specs.Stores.{StoresBlocks}
 use Rattle.hdfs_block_reader.specs.Carrying.{HoldsWhole}
-use Rattle.hdfs_file_writer.specs.Tails.{Finished, StoresFront, TailCarries}
+use Rattle.hdfs_file_writer.specs.Tails.{StoresFront, TailCarries}
+use Rattle.hdfs_file_writer.specs.declared.tails.Tail.TheVariants.{Done}
 use Rattle.hdfs_file_writer.proofs.Others.{is_listed}
 use Rattle.hdfs_file_writer.proofs.Placing.{at_path, at_id, some_none, push_same, contains_last, contains_left}
 use Rattle.hdfs_file_writer.proofs.Storing.{block_stays, stores_keeps, stores_push}
@@ -104,25 +105,29 @@ module _ (p q : Picture) (sound : IsSound p) (path : List ℕ) (file : FileEntry
   first_stored bytes empty table = subst (λ (ids : List ℕ). StoresBlocks q ids bytes) (sym none) empty
 
 -- a block behind the last one, and the end of a file
-module _ (p q : Picture) (sound : IsSound p) (path : List ℕ) (file : FileEntry) (is : IsFileAt p path file) (id n : ℕ) (bytes : List ℕ) (block : Block) (named : block.block_id ≡ id) (length_named : block.num_bytes ≡ n)
-    (tail : TailCarries p path file.blocks (Finished id n) bytes) where
-  abbrev whole : HoldsWhole p id n tail.2.0 tail.0
+module _ (p q : Picture) (sound : IsSound p) (path : List ℕ) (file : FileEntry) (is : IsFileAt p path file) (bytes : List ℕ) (block : Block)
+    (tail : TailCarries p path file.blocks (Done block) bytes) where
+  abbrev id : ℕ
+  id = block.block_id
+
+  abbrev whole : HoldsWhole p id block.num_bytes tail.2.0 tail.0
   whole = tail.2.1
 
   apart_front : (other : ℕ) → Contains tail.1.front other → other ≢ id
   apart_front other there = not_twice p sound path file is tail.1.front id tail.1.ends other there
 
   pub length_other : (other : ℕ) → other ≢ id → with_length p.table (Some block) other ≡ p.table other
-  length_other other apart = ⊎_elim (λ here. absurd (apart (sym here.0 ∙ named))) (λ away. away.1) (at_id block.block_id other (option_map (of_length block.num_bytes) (p.table other)) (p.table other))
+  length_other other apart = ⊎_elim (λ here. absurd (apart (sym here.0))) (λ away. away.1) (at_id id other (option_map (of_length block.num_bytes) (p.table other)) (p.table other))
 
-  pub length_own : with_length p.table (Some block) id ≡ Some (of_length n whole.entry)
+  pub length_own : with_length p.table (Some block) id ≡ Some (of_length block.num_bytes whole.entry)
   length_own = ⊎_elim
-      (λ here. here.1 ∙ ap (option_map (of_length block.num_bytes)) whole.is ∙ ap (λ (k : ℕ). Some (of_length k whole.entry)) length_named)
-      (λ away. absurd (away.0 named))
-      (at_id block.block_id id (option_map (of_length block.num_bytes) (p.table id)) (p.table id))
+      (λ here. here.1 ∙ ap (option_map (of_length block.num_bytes)) whole.is)
+      (λ away. absurd (away.0 refl))
+      (at_id id id (option_map (of_length block.num_bytes) (p.table id)) (p.table id))
 
-  is_last : Contains file.blocks id
-  is_last = subst (λ (l : List ℕ). Contains l id) (sym tail.1.ends) (contains_last tail.1.front id)
+  -- it is one of the file's, and its last one
+  pub has_last : Contains file.blocks id
+  has_last = subst (λ (l : List ℕ). Contains l id) (sym tail.1.ends) (contains_last tail.1.front id)
 
   -- with the length set, all blocks so far store all bytes so far
   pub all_stored : ((other : ℕ) → Contains file.blocks other → q.table other ≡ with_length p.table (Some block) other) → ((node : List ℕ) (other : ℕ) → q.held node other ≡ p.held node other) → StoresBlocks q file.blocks bytes
@@ -134,26 +139,22 @@ module _ (p q : Picture) (sound : IsSound p) (path : List ℕ) (file : FileEntry
       )) tail.1.stored in
       subst (λ (l : List ℕ). StoresBlocks q l bytes) (sym tail.1.ends)
       (subst (StoresBlocks q (tail.1.front ++ id ∷ [])) (sym tail.1.cut)
-      (stores_push q tail.1.front tail.1.before id (of_length n whole.entry) tail.0 stored (table id is_last ∙ length_own)
-      (block_stays p q id (of_length n whole.entry) tail.0 (λ node. held node id) whole.stores)))
+      (stores_push q tail.1.front tail.1.before id (of_length block.num_bytes whole.entry) tail.0 stored (table id has_last ∙ length_own)
+      (block_stays p q id (of_length block.num_bytes whole.entry) tail.0 (λ node. held node id) whole.stores)))
 
   -- the length of no other file's block is set
   pub length_away : (other : ℕ) → (Contains file.blocks other → ⊥) → with_length p.table (Some block) other ≡ p.table other
-  length_away other away = length_other other (λ same. away (subst (Contains file.blocks) (sym same) is_last))
-
-  -- the named block is one of the file's, and its last one
-  pub has_last : Contains file.blocks block.block_id
-  has_last = subst (Contains file.blocks) (sym named) is_last
+  length_away other away = length_other other (λ same. away (subst (Contains file.blocks) (sym same) has_last))
 
   pub ends_in_last : IsLast file.blocks (Some block)
-  ends_in_last = (tail.1.front, tail.1.ends ∙ ap (λ (i : ℕ). tail.1.front ++ i ∷ []) (sym named))
+  ends_in_last = (tail.1.front, tail.1.ends)
 
   -- the last block isn't given again: what is named is the last one itself
   pub never_again : (last : ℕ) → IsRetried p.table file.blocks (Some block) last → ⊥
   never_again last again =
       let same : last ≡ id = push_same file.blocks again.front tail.1.front last id again.last tail.1.ends in
-      let there : Contains again.front block.block_id = subst (λ (l : List ℕ). Contains l block.block_id) (sym again.behind.1) (contains_last again.behind.0 block.block_id) in
-      not_twice p sound path file is again.front last again.last block.block_id there (named ∙ sym same)
+      let there : Contains again.front id = subst (λ (l : List ℕ). Contains l id) (sym again.behind.1) (contains_last again.behind.0 id) in
+      not_twice p sound path file is again.front last again.last id there (sym same)
 
   pub behind_new : {excludes : List DatanodeInfo} (found : LocatedBlock) → AddsBlock path file (Some block) excludes found p q
       → AddsNew path file (Some block) excludes found p q

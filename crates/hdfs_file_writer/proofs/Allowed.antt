@@ -1,7 +1,6 @@
 -- Leave for what a writer asks for. It names the client and the file, which each call keeps, so that it carries on from call to call; and
 -- the block that is being written is one that was answered.
-use Rattle.std.proofs.Common.{◌≡◌, ℕ, true, false, Bool, List, Option, Some, None, IsSome, inl, refl, sym, ◌∙◌, ap, subst}
-use Rattle.std.proofs.lemmas.Bool.{false≢true}
+use Rattle.std.proofs.Common.{◌≡◌, ℕ, false, Bool, List, Option, Some, None, IsSome, inl, refl, sym, ◌∙◌, ap, subst}
 use Rattle.hdfs_cluster.specs.declared.asks.Answer.{Answer}
 use Rattle.hdfs_cluster.specs.declared.asks.Ask.{Ask}
 use Rattle.hdfs_cluster.specs.declared.messages.Block.{Block}
@@ -21,7 +20,10 @@ use Rattle.hdfs_rebuild.specs.declared.block_plan.RebuildSettings.{RebuildSettin
 use Rattle.hdfs_namenode.specs.declared.protocol.NamenodeProtocol.{NamenodeProtocol}
 use Rattle.hdfs_file_writer.specs.declared.file_writer.FileWriter.{FileWriter}
 use Rattle.hdfs_file_writer.specs.declared.sizes.WriteSizes.{WriteSizes}
-use Rattle.hdfs_file_writer.specs.Writers.{BlockStands, IsAnswered, IsAnsweredPlan, IsAnsweredTail, Keeps, MayFinish, MayWrite, plan_of, tail_by, tail_done}
+use Rattle.hdfs_file_writer.specs.Tails.{last_of}
+use Rattle.hdfs_file_writer.specs.declared.tails.Tail.{Tail}
+use Rattle.hdfs_file_writer.specs.declared.tails.Tail.TheVariants.{Bare, Going, Reopened}
+use Rattle.hdfs_file_writer.specs.Writers.{BlockStands, IsAnswered, IsAnsweredPlan, IsAnsweredTail, Keeps, MayFinish, MayWrite, plan_of, tail_done}
 
 -- the block of a writer of a block was answered
 abbrev pub IsAnsweredPipe : (Ask → Answer → Type 0) → List ℕ → List ℕ → Option ℕ → BlockWriter → Type 0
@@ -92,17 +94,15 @@ answered_left located reopened = record {
 }
 
 -- a writer that writes such a block
-pub answered_with : {may_answer : Ask → Answer → Type 0} {client : List ℕ} (w w' : FileWriter) (block : BlockWriter) → Keeps w w' → w'.going ≡ Some block
-    → w'.failed ≡ w.failed → w'.last ≡ w.last → IsAnswered may_answer client w → IsAnsweredPipe may_answer client w.path w.file_id block
+pub answered_with : {may_answer : Ask → Answer → Type 0} {client : List ℕ} (w w' : FileWriter) (block : BlockWriter) → Keeps w w' → w'.tail ≡ Going block
+    → IsAnswered may_answer client w → IsAnsweredPipe may_answer client w.path w.file_id block
     → IsAnswered may_answer client w'
-answered_with {may_answer} {client} w w' block keeps is fails last before answered = record {
+answered_with {may_answer} {client} w w' block keeps is before answered = record {
   id = at_file (λ path file_id. IsAnsweredId may_answer client path file_id) w w' keeps before.id;
   block =
-      subst (λ (going : Option BlockWriter). IsAnsweredTail may_answer client w'.path w'.file_id (tail_by going w'.reopened w'.last)) (sym is)
+      subst (IsAnsweredTail may_answer client w'.path w'.file_id) (sym is)
       (at_file (λ path file_id. IsAnsweredPipe may_answer client path file_id block) w w' keeps answered);
-  last = λ fine.
-      subst (IsAnsweredLast may_answer client w'.path w'.file_id) (sym last)
-      (at_file (λ path file_id. IsAnsweredLast may_answer client path file_id w.last) w w' keeps (before.last (sym fails ∙ fine)));
+  last = λ fine. subst (λ (t : Tail). IsAnsweredLast may_answer client w'.path w'.file_id (last_of t)) (sym is) tt;
 }
 
 -- the pipeline of a new writer of a block is that of its plan, which was answered with the block
@@ -119,42 +119,41 @@ answered_new may_answer client path file_id plan block new answered pipe is =
     })
 
 -- the block that is being written was answered, where the last one was
-pub answered_going : {may_answer : Ask → Answer → Type 0} {client : List ℕ} (w : FileWriter) {block : BlockWriter} → w.going ≡ Some block
+pub answered_going : {may_answer : Ask → Answer → Type 0} {client : List ℕ} (w : FileWriter) {block : BlockWriter} → w.tail ≡ Going block
     → IsAnswered may_answer client w → IsAnsweredPipe may_answer client w.path w.file_id block
-answered_going {may_answer} {client} w {block} is answered =
-    subst (λ (going : Option BlockWriter). IsAnsweredTail may_answer client w.path w.file_id (tail_by going w.reopened w.last)) is answered.block
+answered_going {may_answer} {client} w {block} is answered = subst (IsAnsweredTail may_answer client w.path w.file_id) is answered.block
 
 -- so was the one that is to be gone on with
-pub answered_reopened : {may_answer : Ask → Answer → Type 0} {client : List ℕ} (w : FileWriter) {located : LocatedBlock} → w.going ≡ None
-    → w.reopened ≡ Some located → IsAnswered may_answer client w → IsReopened may_answer client w.path located
-answered_reopened {may_answer} {client} w {located} none is answered =
-    subst (λ (reopened : Option LocatedBlock). IsAnsweredTail may_answer client w.path w.file_id (tail_by None reopened w.last)) is
-    (subst (λ (going : Option BlockWriter). IsAnsweredTail may_answer client w.path w.file_id (tail_by going w.reopened w.last)) none answered.block)
+pub answered_reopened : {may_answer : Ask → Answer → Type 0} {client : List ℕ} (w : FileWriter) {located : LocatedBlock} → w.tail ≡ Reopened located → IsAnswered may_answer client w → IsReopened may_answer client w.path located
+answered_reopened {may_answer} {client} w {located} is answered = subst (IsAnsweredTail may_answer client w.path w.file_id) is answered.block
 
--- where a block is done, nothing is to be answered
+-- where a block is done, nothing more is to be answered of it
 answered_done : (may_answer : Ask → Answer → Type 0) (client path : List ℕ) (file_id : Option ℕ) (last : Option Block)
     → IsAnsweredTail may_answer client path file_id (tail_done last)
 answered_done may_answer client path file_id None = tt
 answered_done may_answer client path file_id (Some block) = tt
 
+-- what is last of a tail that is done
+last_done : (last : Option Block) → last_of (tail_done last) ≡ last
+last_done None = refl
+last_done (Some block) = refl
+
 -- a writer that keeps no block, whose last one that is done was answered unless it has failed
-pub answered_idle : {may_answer : Ask → Answer → Type 0} {client : List ℕ} (w w' : FileWriter) → Keeps w w' → w'.going ≡ None → w'.reopened ≡ None
-    → IsAnswered may_answer client w → (w'.failed ≡ false → IsAnsweredLast may_answer client w.path w.file_id w'.last)
+pub answered_idle : {may_answer : Ask → Answer → Type 0} {client : List ℕ} (w w' : FileWriter) (last : Option Block) → Keeps w w' → w'.tail ≡ tail_done last
+    → IsAnswered may_answer client w → (w'.failed ≡ false → IsAnsweredLast may_answer client w.path w.file_id last)
     → IsAnswered may_answer client w'
-answered_idle {may_answer} {client} w w' keeps none done answered last = record {
+answered_idle {may_answer} {client} w w' last keeps done answered before = record {
   id = at_file (λ path file_id. IsAnsweredId may_answer client path file_id) w w' keeps answered.id;
-  block =
-      subst (λ (going : Option BlockWriter). IsAnsweredTail may_answer client w'.path w'.file_id (tail_by going w'.reopened w'.last)) (sym none)
-      (subst (λ (reopened : Option LocatedBlock). IsAnsweredTail may_answer client w'.path w'.file_id (tail_by None reopened w'.last)) (sym done)
-      (answered_done may_answer client w'.path w'.file_id w'.last));
-  last = λ fine. at_file (λ path file_id. IsAnsweredLast may_answer client path file_id w'.last) w w' keeps (last fine);
+  block = subst (IsAnsweredTail may_answer client w'.path w'.file_id) (sym done) (answered_done may_answer client w'.path w'.file_id last);
+  last = λ fine.
+      subst (IsAnsweredLast may_answer client w'.path w'.file_id) (sym (ap last_of done ∙ last_done last))
+      (at_file (λ path file_id. IsAnsweredLast may_answer client path file_id last) w w' keeps (before fine));
 }
 
--- one that has failed
-pub answered_failed : {may_answer : Ask → Answer → Type 0} {client : List ℕ} (w w' : FileWriter) → Keeps w w' → w'.going ≡ None → w'.reopened ≡ None
-    → w'.failed ≡ true → IsAnswered may_answer client w → IsAnswered may_answer client w'
-answered_failed w w' keeps none done failed answered =
-    answered_idle w w' keeps none done answered (λ fine. absurd (false≢true (sym fine ∙ failed)))
+-- one that keeps none at all
+pub answered_bare : {may_answer : Ask → Answer → Type 0} {client : List ℕ} (w w' : FileWriter) → Keeps w w' → w'.tail ≡ Bare
+    → IsAnswered may_answer client w → IsAnswered may_answer client w'
+answered_bare w w' keeps bare answered = answered_idle w w' None keeps bare answered (λ fine. tt)
 
 -- the first pipeline of a writer's block is set up as the block was answered
 pub first_setup : (w : FileWriter) (located : LocatedBlock) (created : Bool) (client : List ℕ)

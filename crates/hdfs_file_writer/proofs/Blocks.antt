@@ -11,11 +11,14 @@ use Rattle.hdfs_block_writer.specs.BlockWriters.{Carries, length_of}
 use Rattle.hdfs_block_writer.specs.OpenPipelines.{KeepsBlock, id_of}
 use Rattle.hdfs_block_writer.specs.declared.block_writer.BlockWriter.{BlockWriter}
 use Rattle.hdfs_file_writer.specs.OnlyFiles.{OnlyFile, SameFile}
-use Rattle.hdfs_file_writer.specs.Tails.{Tail, Finished, Going, StoresFront, FileCarries, Reopened, tail_length, IsFull, taken_up, FillsBlocks, TailCarries}
+use Rattle.hdfs_file_writer.specs.Tails.{StoresFront, FileCarries, last_of, tail_length, IsFull, taken_up, FillsBlocks, TailCarries}
+use Rattle.hdfs_file_writer.specs.declared.tails.Tail.{Tail}
+use Rattle.hdfs_file_writer.specs.declared.tails.Tail.TheVariants.{Done, Going, Reopened}
 use Rattle.hdfs_file_writer.specs.WholeBlocks.{StaysWhole}
 use Rattle.hdfs_file_writer.proofs.Adding.{not_twice}
 use Rattle.hdfs_file_writer.proofs.Placing.{contains_last}
 use Rattle.hdfs_file_writer.proofs.Storing.{stores_keeps}
+use Rattle.hdfs_file_writer.proofs.LastBlocks.{tail_is_done}
 use Rattle.hdfs_file_writer.proofs.Touching.{only_file_block, same_file_block}
 use Rattle.hdfs_file_writer.proofs.WholeBlocks.{before_last, stays_kept}
 use Rattle.std.proofs.Math.Nat.{suc-mul}
@@ -23,21 +26,11 @@ use Rattle.std.proofs.lemmas.List.{length-append}
 use Rattle.hdfs_cluster.specs.declared.messages.Block.{Block}
 use Rattle.hdfs_cluster.specs.declared.messages.LocatedBlock.{LocatedBlock}
 use Rattle.hdfs_file_writer.specs.declared.file_writer.FileWriter.{FileWriter}
-use Rattle.hdfs_file_writer.specs.Writers.{tail_done, tail_opened, tail_by, tail_of, IsBetweenBlocks}
+use Rattle.hdfs_file_writer.specs.Writers.{tail_done, tail_of, IsBetweenBlocks}
 
--- how the last block stands while it is being written
-pub tail_going : (w : FileWriter) (block : BlockWriter) → w.going ≡ Some block → tail_of w ≡ Going block
-tail_going w block is = ap (λ (g : Option BlockWriter). tail_by g w.reopened w.last) is
-
--- how it stands where it is to be gone on with
-pub tail_reopened : (w : FileWriter) (found : LocatedBlock) → w.going ≡ None → w.reopened ≡ Some found → tail_of w ≡ Reopened found
-tail_reopened w found none is =
-    ap (λ (g : Option BlockWriter). tail_by g w.reopened w.last) none ∙ ap (λ (o : Option LocatedBlock). tail_opened o w.last) is
-
--- how it stands between blocks
-pub tail_between : (w : FileWriter) → IsBetweenBlocks w → tail_of w ≡ tail_done w.last
-tail_between w between =
-    ap (λ (g : Option BlockWriter). tail_by g w.reopened w.last) between.none ∙ ap (λ (o : Option LocatedBlock). tail_opened o w.last) between.done
+-- how the last block stands between blocks
+pub tail_between : (w : FileWriter) → IsBetweenBlocks w → tail_of w ≡ tail_done (last_of w.tail)
+tail_between w between = tail_is_done w.tail between.none between.done
 
 -- the same blocks take up the same
 pub fills_same : (size : ℕ) (blocks blocks' : List ℕ) (tail tail' : Tail) → blocks' ≡ blocks → tail_length tail' ≡ tail_length tail
@@ -93,17 +86,15 @@ fills_grown p path size blocks blocks' (Some block) bytes tail' c full longer em
     (omega (arith, empty), omega (arith, taken))
 
 -- a full block that isn't gone on with is full still
-pub settled_full : (size : ℕ) (w w' : FileWriter) (found : LocatedBlock) → w.going ≡ None → w.reopened ≡ Some found → IsBetweenBlocks w'
-    → w'.last ≡ Some found.b → IsFull size (tail_of w) → IsFull size (tail_of w')
-settled_full size w w' found none reopened between last full =
-    subst (IsFull size) (sym (tail_between w' between ∙ ap tail_done last)) (subst (IsFull size) (tail_reopened w found none reopened) full)
+pub settled_full : (size : ℕ) (w w' : FileWriter) (found : LocatedBlock) → w.tail ≡ Reopened found → w'.tail ≡ Done found.b
+    → IsFull size (tail_of w) → IsFull size (tail_of w')
+settled_full size w w' found reopened done full = subst (IsFull size) (sym done) (subst (IsFull size) reopened full)
 
 -- so is one that was ended, and has this name
-pub ended_full : (size : ℕ) (w w' : FileWriter) (block : BlockWriter) (named : Block) → w.going ≡ Some block → IsBetweenBlocks w'
-    → w'.last ≡ Some named → named.num_bytes ≡ length_of block → IsFull size (tail_of w) → IsFull size (tail_of w')
-ended_full size w w' block named going between last long full =
-    subst (IsFull size) (sym (tail_between w' between ∙ ap tail_done last))
-    (subst (λ (n : ℕ). size ≤ n) (sym long) (subst (IsFull size) (tail_going w block going) full))
+pub ended_full : (size : ℕ) (w w' : FileWriter) (block : BlockWriter) (named : Block) → w.tail ≡ Going block → w'.tail ≡ Done named
+    → named.num_bytes ≡ length_of block → IsFull size (tail_of w) → IsFull size (tail_of w')
+ended_full size w w' block named going done long full =
+    subst (IsFull size) (sym done) (subst (λ (n : ℕ). size ≤ n) (sym long) (subst (IsFull size) going full))
 
 -- the blocks before the last stay stored where the last one alone is touched
 front_kept : (p q : Picture) → IsSound p → (path : List ℕ) (file : FileEntry) → IsFileAt p path file → (id : ℕ) (bytes rest : List ℕ) → OnlyBlockOf id p q → StoresFront p file.blocks id bytes rest → StoresFront q file.blocks id bytes rest
@@ -156,12 +147,18 @@ module _ (p : Picture) (sound : IsSound p) (path : List ℕ) (block : BlockWrite
   }
 
   -- the block was ended
-  pub going_ended : (q : Picture) (n : ℕ) (nodes : List (List ℕ)) → OnlyBlockOf id p q → HoldsWhole q id n nodes c.carries.0 → FileCarries q path (Finished id n) bytes
-  going_ended q n nodes only whole = record {
+  pub going_ended : (q : Picture) (named : Block) (nodes : List (List ℕ)) → named.block_id ≡ id → OnlyBlockOf id p q
+      → HoldsWhole q id named.num_bytes nodes c.carries.0 → FileCarries q path (Done named) bytes
+  going_ended q named nodes same only whole = record {
     file = c.file;
     named = only.names path ∙ c.named;
     being_written = c.being_written;
-    carries = (c.carries.0, front_kept p q sound path c.file c.named id bytes c.carries.0 only c.carries.3, (nodes, whole));
+    carries = (
+      c.carries.0,
+      subst (λ (i : ℕ). StoresFront q c.file.blocks i bytes c.carries.0) (sym same)
+          (front_kept p q sound path c.file c.named id bytes c.carries.0 only c.carries.3),
+      (nodes, subst (λ (i : ℕ). HoldsWhole q i named.num_bytes nodes c.carries.0) (sym same) whole),
+    );
   }
 
   -- the blocks before it stay whole

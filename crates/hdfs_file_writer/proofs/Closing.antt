@@ -4,7 +4,6 @@ use Rattle.std.specs.Prelude.{Result, Ok, Err, true, false}
 use Rattle.hdfs_cluster.specs.declared.asks.Answer.{Answer}
 use Rattle.hdfs_cluster.specs.declared.asks.Ask.{Ask}
 use Rattle.hdfs_cluster.specs.declared.errors.HdfsError.{HdfsError}
-use Rattle.hdfs_cluster.specs.declared.messages.LocatedBlock.{LocatedBlock}
 use Rattle.hdfs_cluster.specs.declared.asks.Answer.TheVariants as answers
 use Rattle.hdfs_cluster.specs.Asks.{complete_ask}
 use Rattle.hdfs_cluster.specs.declared.errors.HdfsError.TheVariants as errors
@@ -19,18 +18,20 @@ use Rattle.hdfs_cluster.specs.Files.{File}
 use Rattle.hdfs_cluster.specs.Sound.{IsSound}
 use Rattle.hdfs_cluster.specs.Stores.{AgreesAt}
 use Rattle.hdfs_cluster.proofs.Frames.{never_fall_refl}
-use Rattle.hdfs_block_writer.specs.declared.block_writer.BlockWriter.{BlockWriter}
 use Rattle.hdfs_namenode.specs.Relaying.{Came, RelaysTold}
 use Rattle.hdfs_file_writer.specs.declared.file_writer.FileWriter.{FileWriter}
 use Rattle.hdfs_file_writer.specs.OnlyFiles.{OnlyFile}
-use Rattle.hdfs_file_writer.specs.Tails.{FileCarries}
+use Rattle.hdfs_file_writer.specs.Tails.{FileCarries, last_of}
+use Rattle.hdfs_file_writer.specs.declared.tails.Tail.{Tail}
 use Rattle.hdfs_file_writer.specs.WholeBlocks.{ClosesWhole}
-use Rattle.hdfs_file_writer.specs.Writers.{blocks_in, tail_done, tail_by, tail_of, IsBetweenBlocks, link_of, link_by, OnlyOwnLink, Closed, FailsToClose}
+use Rattle.hdfs_file_writer.specs.Writers.{blocks_in, tail_done, tail_of, IsBetweenBlocks, link_of, OnlyOwnLink, Closed, FailsToClose}
+use Rattle.hdfs_file_writer.proofs.Blocks.{tail_between}
 use Rattle.hdfs_file_writer.proofs.Completing.{IsAsked, complete_again, only_asked, says_closed, says_not, says_nothing, says_rose}
 use Rattle.hdfs_file_writer.proofs.Growing.{closed_agrees}
 use Rattle.hdfs_file_writer.proofs.Joining.{calls_since, tells_since, tells_close}
 use Rattle.hdfs_file_writer.proofs.Moving.{own_link_refl, own_link_trans, own_link_left, only_file_refl}
 use Rattle.hdfs_file_writer.proofs.Steps.{Shows, as_done}
+use Rattle.hdfs_file_writer.proofs.LastBlocks.{no_link}
 use Rattle.hdfs_file_writer.proofs.Tallying.{no_limit}
 use Rattle.hdfs_file_writer.proofs.Telling.{tells_asked, apart_asked, asked_cause}
 use Rattle.hdfs_cluster.proofs.Failures.{times_fall}
@@ -53,15 +54,15 @@ pub record Asking (tries : ℕ) (a : Shown) (w : FileWriter) (b : Shown) : Type 
   pub last : (tries ≡ 0) ⊎ (b.last ≡ last_answers.Fine)
   pub times : CallsRoseTimes a.namenodes tries a.counts b.counts
   pub nodes : SameNodes a b
-  pub told : (p : Picture) (bytes : List ℕ) → a.picture ≡ Some p → (c : FileCarries p w.path (tail_done w.last) bytes)
-      → (q : Picture) × (b.picture ≡ Some q) × IsAsked p w.path bytes w.last c.file q
+  pub told : (p : Picture) (bytes : List ℕ) → a.picture ≡ Some p → (c : FileCarries p w.path (tail_done (last_of w.tail)) bytes)
+      → (q : Picture) × (b.picture ≡ Some q) × IsAsked p w.path bytes (last_of w.tail) c.file q
 
 module _ {a b : Shown} {w : FileWriter} (between : IsBetweenBlocks w) (sound : Shows IsSound b) {tries : ℕ} (asking : Asking tries a w b) where
   own_link : (x : Shown) → OnlyOwnLink a None x None → OnlyOwnLink a (link_of w) x None
-  own_link x own = subst (λ (g : Option BlockWriter). OnlyOwnLink a (link_by g) x None) (sym between.none) own
+  own_link x own = subst (λ (l : Option ℕ). OnlyOwnLink a l x None) (sym (no_link w.tail between.none)) own
 
   -- what is known of what the writer carries
-  known : (p : Picture) (bytes : List ℕ) → a.picture ≡ Some p → FileCarries p w.path (tail_of w) bytes → FileCarries p w.path (tail_done w.last) bytes
+  known : (p : Picture) (bytes : List ℕ) → a.picture ≡ Some p → FileCarries p w.path (tail_of w) bytes → FileCarries p w.path (tail_done (last_of w.tail)) bytes
   known p bytes told c = as_done w between p w.path bytes c
 
   -- there was no memory for the error
@@ -73,7 +74,7 @@ module _ {a b : Shown} {w : FileWriter} (between : IsBetweenBlocks w) (sound : S
     touches = λ p bytes told c.
         (let c' = known p bytes told c in
         let f = asking.told p bytes told c' in
-        (f.0, f.1, only_asked p w.path bytes w.last c'.file f.0 f.2));
+        (f.0, f.1, only_asked p w.path bytes (last_of w.tail) c'.file f.0 f.2));
     cause = λ p bytes told c. tt;
   }
 
@@ -96,20 +97,20 @@ module _ {a b : Shown} {w : FileWriter} (between : IsBetweenBlocks w) (sound : S
 
   module _ (c : Shown) (client : List ℕ) where
     abbrev completing : Ask
-    completing = complete_ask w.path client w.last w.file_id
+    completing = complete_ask w.path client (last_of w.tail) w.file_id
 
     own_asked : Leaves b c → OnlyOwnLink a None c None
     own_asked left = own_link_trans a b c None None None asking.own (own_link_left b c None left)
 
     -- what one more ask comes to where the writer carries its file
     asked_more : (result : Result Answer HdfsError) → Came b completing result c → (p : Picture) (bytes : List ℕ) → a.picture ≡ Some p
-        → (carried : FileCarries p w.path (tail_done w.last) bytes)
-        → (q : Picture) × (r : Picture) × (c.picture ≡ Some r) × IsSound q × IsAsked p w.path bytes w.last carried.file q
+        → (carried : FileCarries p w.path (tail_done (last_of w.tail)) bytes)
+        → (q : Picture) × (r : Picture) × (c.picture ≡ Some r) × IsSound q × IsAsked p w.path bytes (last_of w.tail) carried.file q
         × RelaysTold (CallsRose b.counts c) q completing result r
     asked_more result came p bytes told carried =
         let f = asking.told p bytes told carried in
         let t = came.told f.0 f.1
-        (complete_again (CallsRose b.counts c) p w.path bytes w.last carried.file client w.file_id f.0 (sound f.0 f.1) f.2) in
+        (complete_again (CallsRose b.counts c) p w.path bytes (last_of w.tail) carried.file client w.file_id f.0 (sound f.0 f.1) f.2) in
         (f.0, t.0, t.1, sound f.0 f.1, f.2, t.2)
 
     rises_below : (i : ℕ) → i < c.namenodes → Leaves b c → i < a.namenodes
@@ -133,33 +134,37 @@ module _ {a b : Shown} {w : FileWriter} (between : IsBetweenBlocks w) (sound : S
       nodes = asked_nodes (Ok (answers.Complete false)) came;
       told = λ p bytes told carried.
           (let m = asked_more (Ok (answers.Complete false)) came p bytes told carried in
-          let says = says_not (CallsRose b.counts c) p w.path bytes w.last carried.file client w.file_id m.0 m.3 m.1 m.4 m.5 in
+          let says = says_not (CallsRose b.counts c) p w.path bytes (last_of w.tail) carried.file client w.file_id m.0 m.3 m.1 m.4 m.5 in
           (m.1, m.2, says.1));
     }
+
+    -- what it comes to that the file is closed, where its last block stands so
+    abbrev ClosesTail : Tail → Type 0
+    ClosesTail tail =
+        (p : Picture) (bytes : List ℕ) → a.picture ≡ Some p → (carried : FileCarries p w.path tail bytes)
+        → (q : Picture) × (c.picture ≡ Some q) × OnlyFile w.path p q
+        × AgreesAt q (q.names w.path) (Some (File (record { bytes = bytes; attributes = carried.file.attributes })))
+        × ClosesWhole w.sizes.block_size p (blocks_in p w) tail q (blocks_in q w)
+
+    closes_done : Came b completing (Ok (answers.Complete true)) c → ClosesTail (tail_done (last_of w.tail))
+    closes_done came p bytes told carried =
+        let m = asked_more (Ok (answers.Complete true)) came p bytes told carried in
+        let closed = says_closed (CallsRose b.counts c) p w.path bytes (last_of w.tail) carried.file client w.file_id m.0 m.3 m.1 m.4 m.5 in (
+          m.1,
+          m.2,
+          closed.only,
+          closed_agrees p m.1 w.path bytes (last_of w.tail) carried.file closed,
+          subst (λ (l : List ℕ). ClosesWhole w.sizes.block_size p l (tail_done (last_of w.tail)) m.1 (blocks_in m.1 w)) (sym (ap blocks_at carried.named))
+              (subst (ClosesWhole w.sizes.block_size p carried.file.blocks (tail_done (last_of w.tail)) m.1) (sym (ap blocks_at closed.named))
+              (closed.done w.sizes.block_size)),
+        )
 
     -- the file is closed
     pub asked_true : Came b completing (Ok (answers.Complete true)) c → Closed a w c
     asked_true came = record {
       own = own_link c (own_asked came.relays.leaves);
-      closes = λ p bytes told carried. closes_by p bytes told w.going w.reopened between.none between.done carried;
+      closes = subst ClosesTail (sym (tail_between w between)) (closes_done came);
     }
-      where
-        closes_by : (p : Picture) (bytes : List ℕ) → a.picture ≡ Some p → (g : Option BlockWriter) (o : Option LocatedBlock) → g ≡ None → o ≡ None → (carried : FileCarries p w.path (tail_by g o w.last) bytes)
-            → (q : Picture) × (c.picture ≡ Some q) × OnlyFile w.path p q × AgreesAt q (q.names w.path) (Some (File (record { bytes = bytes; attributes = carried.file.attributes })))
-            × ClosesWhole w.sizes.block_size p (blocks_in p w) (tail_by g o w.last) q (blocks_in q w)
-        closes_by p bytes told (Some block) o is done carried = absurd (cc is)
-        closes_by p bytes told None (Some located) is done carried = absurd (cc done)
-        closes_by p bytes told None None is done carried =
-            let m = asked_more (Ok (answers.Complete true)) came p bytes told carried in
-            let closed = says_closed (CallsRose b.counts c) p w.path bytes w.last carried.file client w.file_id m.0 m.3 m.1 m.4 m.5 in (
-              m.1,
-              m.2,
-              closed.only,
-              closed_agrees p m.1 w.path bytes w.last carried.file closed,
-              subst (λ (l : List ℕ). ClosesWhole w.sizes.block_size p l (tail_done w.last) m.1 (blocks_in m.1 w)) (sym (ap blocks_at carried.named))
-                  (subst (ClosesWhole w.sizes.block_size p carried.file.blocks (tail_done w.last) m.1) (sym (ap blocks_at closed.named))
-                  (closed.done w.sizes.block_size)),
-            )
 
     -- there was no answer
     pub asked_error : (error : HdfsError) → Came b completing (Err error) c → FailsToClose a w error c
@@ -172,12 +177,12 @@ module _ {a b : Shown} {w : FileWriter} (between : IsBetweenBlocks w) (sound : S
       touches = λ p bytes told carried.
           (let c' = known p bytes told carried in
           let m = asked_more (Err error) came p bytes told c' in
-          (m.1, m.2, says_nothing (CallsRose b.counts c) p w.path bytes w.last c'.file client w.file_id m.0 m.3 m.1 error m.4 m.5));
+          (m.1, m.2, says_nothing (CallsRose b.counts c) p w.path bytes (last_of w.tail) c'.file client w.file_id m.0 m.3 m.1 error m.4 m.5));
       cause = λ p bytes told carried. asked_cause w.sizes w.path a b c error came.relays.tells (λ some.
           (let c' = known p bytes told carried in
           let m = asked_more (Err error) came p bytes told c' in
           calls_since a b c asking.own.later
-          (says_rose (CallsRose b.counts c) p w.path bytes w.last c'.file client w.file_id m.0 m.3 m.1 error some m.4 m.5)));
+          (says_rose (CallsRose b.counts c) p w.path bytes (last_of w.tail) c'.file client w.file_id m.0 m.3 m.1 error some m.4 m.5)));
     }
 
 -- before the first ask

@@ -12,7 +12,8 @@ use Rattle.hdfs_names.specs.Paths.{ancestors}
 use Rattle.hdfs_cluster.specs.Picture.{Picture}
 use Rattle.hdfs_cluster.specs.Sound.{IsSound, IsFileAt}
 use Rattle.hdfs_file_writer.specs.OnlyFiles.{KeepsBlocks}
-use Rattle.hdfs_file_writer.specs.Tails.{Tail, FileCarries}
+use Rattle.hdfs_file_writer.specs.Tails.{FileCarries}
+use Rattle.hdfs_file_writer.specs.declared.tails.Tail.{Tail}
 use Rattle.hdfs_file_writer.proofs.Others.{elsewhere, tail_stays}
 use Rattle.hdfs_file_writer.proofs.Placing.{at_path}
 use Rattle.hdfs_file_writer.proofs.Storing.{contains_head, contains_later}

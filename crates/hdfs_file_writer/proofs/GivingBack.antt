@@ -22,7 +22,9 @@ use Rattle.hdfs_cluster.proofs.GivingUp.{give_up_repeats}
 use Rattle.hdfs_cluster.proofs.Repeating.{here_text, keeps_trans, same_keeps}
 use Rattle.hdfs_block_reader.specs.Carrying.{HoldsWhole}
 use Rattle.hdfs_file_writer.specs.OnlyFiles.{OnlyFile, SameFile}
-use Rattle.hdfs_file_writer.specs.Tails.{Finished, FileCarries, Tail, TailCarries}
+use Rattle.hdfs_file_writer.specs.Tails.{FileCarries, TailCarries}
+use Rattle.hdfs_file_writer.specs.declared.tails.Tail.{Tail}
+use Rattle.hdfs_file_writer.specs.declared.tails.Tail.TheVariants.{Done}
 use Rattle.hdfs_file_writer.specs.WholeBlocks.{StaysWhole}
 use Rattle.hdfs_file_writer.specs.Writers.{tail_done}
 use Rattle.hdfs_file_writer.proofs.Adding as adding
@@ -36,7 +38,7 @@ pub adds_new : (p q : Picture) → IsSound p → (path : List ℕ) (last : Optio
     {excludes : List DatanodeInfo} (found : LocatedBlock) → AddsBlock path c.file last excludes found p q → AddsNew path c.file last excludes found p q
 adds_new p q sound path None bytes c found adds = adding.first_new p q sound path c.file c.named c.carries.0 found adds
 adds_new p q sound path (Some block) bytes c found adds =
-    adding.behind_new p q sound path c.file c.named block.block_id block.num_bytes bytes block refl refl c.carries found adds
+    adding.behind_new p q sound path c.file c.named bytes block c.carries found adds
 
 -- the names with a file at a path, at another one
 entry_away : (names : List ℕ → Option Entry) (path other : List ℕ) (file : FileEntry) → other ≢ path → with_entry names path file other ≡ names other
@@ -156,7 +158,7 @@ module _ (p q r : Picture) (sound : IsSound p) (path : List ℕ) (last : Option 
 
 -- A file whose last block that is done has its length in the block table is carried as it was.
 module _ (p q : Picture) (sound : IsSound p) (path : List ℕ) (file : FileEntry) (is : IsFileAt p path file) (block : Block) (bytes : List ℕ)
-    (tail : TailCarries p path file.blocks (Finished block.block_id block.num_bytes) bytes)
+    (tail : TailCarries p path file.blocks (Done block) bytes)
     (changes : Changes p q (with_entry p.names path file) (with_length p.table (Some block))) where
   abbrev whole : HoldsWhole p block.block_id block.num_bytes tail.2.0 tail.0
   whole = tail.2.1
@@ -164,10 +166,10 @@ module _ (p q : Picture) (sound : IsSound p) (path : List ℕ) (file : FileEntry
   kept_front : (other : ℕ) → Contains tail.1.front other → q.table other ≡ p.table other
   kept_front other there =
       changes.table other
-      ∙ adding.length_other p q sound path file is block.block_id block.num_bytes bytes block refl refl tail other
+      ∙ adding.length_other p q sound path file is bytes block tail other
       (adding.not_twice p sound path file is tail.1.front block.block_id tail.1.ends other there)
 
-  pub tail_back : TailCarries q path file.blocks (Finished block.block_id block.num_bytes) bytes
+  pub tail_back : TailCarries q path file.blocks (Done block) bytes
   tail_back = (
     tail.0,
     record {
@@ -184,7 +186,7 @@ module _ (p q : Picture) (sound : IsSound p) (path : List ℕ) (file : FileEntry
         entry = of_length block.num_bytes whole.entry;
         is =
             changes.table block.block_id
-            ∙ adding.length_own p q sound path file is block.block_id block.num_bytes bytes block refl refl tail;
+            ∙ adding.length_own p q sound path file is bytes block tail;
         stores = block_stays p q block.block_id (of_length block.num_bytes whole.entry) tail.0
             (λ node. changes.bytes.held node block.block_id) whole.stores;
         whole = λ k d lt. changes.bytes.held _ block.block_id ∙ whole.whole k d lt;
@@ -199,7 +201,7 @@ lengths_away : (p : Picture) → IsSound p → (path : List ℕ) (last : Option 
     (other : ℕ) → (Contains c.file.blocks other → ⊥) → with_length p.table last other ≡ p.table other
 lengths_away p sound path None bytes c other away = refl
 lengths_away p sound path (Some block) bytes c other away =
-    adding.length_away p p sound path c.file c.named block.block_id block.num_bytes bytes block refl refl c.carries other away
+    adding.length_away p p sound path c.file c.named bytes block c.carries other away
 
 module _ (p q : Picture) (sound : IsSound p) (path : List ℕ) where
   pub back_only : (last : Option Block) (bytes : List ℕ) (c : FileCarries p path (tail_done last) bytes)

@@ -22,7 +22,8 @@ use Rattle.hdfs_cluster.specs.Repeating.{Repeats}
 use Rattle.hdfs_cluster.proofs.Repeating.{add_repeats}
 use Rattle.hdfs_block_reader.specs.Carrying.{HoldsWhole}
 use Rattle.hdfs_file_writer.specs.OnlyFiles.{OnlyFile, SameFile}
-use Rattle.hdfs_file_writer.specs.Tails.{Bare, StoresFront, FileCarries}
+use Rattle.hdfs_file_writer.specs.Tails.{StoresFront, FileCarries}
+use Rattle.hdfs_file_writer.specs.declared.tails.Tail.TheVariants.{Bare}
 use Rattle.hdfs_file_writer.specs.WholeBlocks.{ClosesWhole}
 use Rattle.hdfs_file_writer.specs.Writers.{tail_done}
 use Rattle.hdfs_file_writer.proofs.Adding as adding
@@ -47,14 +48,14 @@ pub record Grown (p : Picture) (path bytes : List ℕ) (found : LocatedBlock) (q
 pub last_of_carried : (p : Picture) (path : List ℕ) (last : Option Block) (bytes : List ℕ) (c : FileCarries p path (tail_done last) bytes) → IsSound p → HasBlock c.file.blocks last × IsLast c.file.blocks last
 last_of_carried p path None bytes c sound = (tt, c.carries.0)
 last_of_carried p path (Some block) bytes c sound =
-    (adding.has_last p p sound path c.file c.named block.block_id block.num_bytes bytes block refl refl c.carries, adding.ends_in_last p p sound path c.file c.named block.block_id block.num_bytes bytes block refl refl c.carries)
+    (adding.has_last p p sound path c.file c.named bytes block c.carries, adding.ends_in_last p p sound path c.file c.named bytes block c.carries)
 
 -- its last block isn't given again
 never_retried : (p : Picture) → IsSound p → (path : List ℕ) (last : Option Block) (bytes : List ℕ) (c : FileCarries p path (tail_done last) bytes)
     → (id : ℕ) → IsRetried p.table c.file.blocks last id → ⊥
 never_retried p sound path None bytes c = adding.first_retried p p sound path c.file c.named c.carries.0
 never_retried p sound path (Some block) bytes c =
-    adding.never_again p p sound path c.file c.named block.block_id block.num_bytes bytes block refl refl c.carries
+    adding.never_again p p sound path c.file c.named bytes block c.carries
 
 -- the block table has it
 last_listed : (p : Picture) → IsSound p → (path : List ℕ) (last : Option Block) (bytes : List ℕ) (c : FileCarries p path (tail_done last) bytes)
@@ -97,10 +98,10 @@ grows p q sound path None bytes c found adds =
       same = touching.same_file_added p q path c.file c.named None (λ other away. refl) found new;
     }
 grows p q sound path (Some block) bytes c found adds =
-    let new = adding.behind_new p q sound path c.file c.named block.block_id block.num_bytes bytes block refl refl c.carries found adds in
-    let lengths = adding.length_away p q sound path c.file c.named block.block_id block.num_bytes bytes block refl refl c.carries in
+    let new = adding.behind_new p q sound path c.file c.named bytes block c.carries found adds in
+    let lengths = adding.length_away p q sound path c.file c.named bytes block c.carries in
     let stored : ((other : ℕ) → Contains c.file.blocks other → q.table other ≡ with_length p.table (Some block) other) → StoresBlocks q c.file.blocks bytes =
-    λ table. adding.all_stored p q sound path c.file c.named block.block_id block.num_bytes bytes block refl refl c.carries table new.changes.bytes.held in record {
+    λ table. adding.all_stored p q sound path c.file c.named bytes block c.carries table new.changes.bytes.held in record {
       file = adding.grown_file p q sound path c.file c.named (Some block) bytes found new stored;
       named = adding.grown_named p q sound path c.file c.named (Some block) bytes found new stored;
       being_written = c.being_written;
@@ -137,10 +138,10 @@ closes p q sound path None bytes c done =
     }
 closes p q sound path (Some block) bytes c done =
     let changes : Changes p q (with_entry p.names path (record c.file { is_open = false })) (with_length p.table (Some block)) = subst (λ (b : Bool). ClosesIf b path c.file (Some block) p q) c.being_written done.1 in record {
-      only = touching.only_file_length p q path c.file c.named (Some block) (adding.length_away p q sound path c.file c.named block.block_id block.num_bytes bytes block refl refl c.carries) (record c.file { is_open = false }) refl changes;
+      only = touching.only_file_length p q path c.file c.named (Some block) (adding.length_away p q sound path c.file c.named bytes block c.carries) (record c.file { is_open = false }) refl changes;
       ends = done.0;
       named = adding.named_after p q path (record c.file { is_open = false }) (with_length p.table (Some block)) changes;
-      stores = adding.all_stored p q sound path c.file c.named block.block_id block.num_bytes bytes block refl refl c.carries (λ other there. changes.table other) changes.bytes.held;
+      stores = adding.all_stored p q sound path c.file c.named bytes block c.carries (λ other there. changes.table other) changes.bytes.held;
       done = all_closed p q sound path c.file c.named block bytes c.carries (λ other there. changes.table other) changes.bytes.held;
     }
 

@@ -4,6 +4,7 @@ pub mod Moving
 pub mod Others
 pub mod Placing
 pub mod Storing
+pub mod LastBlocks
 pub mod Tallying
 pub mod Telling
 pub mod Touching

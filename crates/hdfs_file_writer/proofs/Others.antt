@@ -17,7 +17,9 @@ use Rattle.hdfs_block_writer.specs.BlockWriters.{safe_of}
 use Rattle.hdfs_block_writer.specs.OpenPipelines.{id_of}
 use Rattle.hdfs_file_writer.specs.declared.file_writer.FileWriter.{FileWriter}
 use Rattle.hdfs_file_writer.specs.OnlyFiles.{KeepsBlocks, OnlyFile}
-use Rattle.hdfs_file_writer.specs.Tails.{Tail, Bare, Finished, Reopened, Going, StoresFront, TailCarries, FileCarries}
+use Rattle.hdfs_file_writer.specs.Tails.{StoresFront, TailCarries, FileCarries}
+use Rattle.hdfs_file_writer.specs.declared.tails.Tail.{Tail}
+use Rattle.hdfs_file_writer.specs.declared.tails.Tail.TheVariants.{Bare, Done, Reopened, Going}
 use Rattle.hdfs_file_writer.specs.Writers.{link_by, link_of, Stands}
 use Rattle.hdfs_file_writer.proofs.Beside.{still_stands, has_stays}
 use Rattle.hdfs_file_writer.proofs.Placing.{contains_last, contains_left}
@@ -72,7 +74,9 @@ module _ (p q : Picture) (path : List ℕ) (file : FileEntry) (same_name : q.nam
 
   pub tail_stays : (tail : Tail) (bytes : List ℕ) → TailCarries p path file.blocks tail bytes → TailCarries q path file.blocks tail bytes
   tail_stays Bare bytes t = t
-  tail_stays (Finished id n) bytes t = (t.0, front_stays id bytes t.0 t.1, (t.2.0, whole_stays id n t.2.0 t.0 (is_last id bytes t.0 t.1) t.2.1))
+  tail_stays (Done block) bytes t =
+      let id = block.block_id in
+      (t.0, front_stays id bytes t.0 t.1, (t.2.0, whole_stays id block.num_bytes t.2.0 t.0 (is_last id bytes t.0 t.1) t.2.1))
   tail_stays (Reopened located) bytes t =
       let id = located.b.block_id in
       (t.0, front_stays id bytes t.0 t.1, whole_stays id located.b.num_bytes (uuids located.locs) t.0 (is_last id bytes t.0 t.1) t.2)
@@ -149,6 +153,5 @@ stands_beside a b w stays stands = record {
   is_open = stands.is_open;
   idle = stands.idle;
   reopened = stands.reopened;
-  apart = stands.apart;
   done = stands.done;
 }

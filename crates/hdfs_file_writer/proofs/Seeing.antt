@@ -1,6 +1,6 @@
 -- What a writer of a file is, and what it does without a namenode, is so in each view of a cluster: no view hides links, and where the picture
 -- is hidden nothing is told of it. And what a call comes to behind one that wrote, as the service behind both calls sees it.
-use Rattle.std.proofs.Common.{◌≡◌, ℕ, zero, suc, Bool, List, Option, None, sym, ap, subst, ◌++◌, refl}
+use Rattle.std.proofs.Common.{◌≡◌, ℕ, zero, suc, Bool, List, Option, None, sym, subst, ◌++◌, refl}
 use Rattle.hdfs_cluster.specs.declared.messages.LocatedBlock.{LocatedBlock}
 use Rattle.hdfs_cluster.specs.Failures.{NodesFailTimes}
 use Rattle.hdfs_cluster.specs.Picture.{Picture}
@@ -16,7 +16,7 @@ use Rattle.hdfs_block_writer.proofs.Seeing.{over_seen, over_shown}
 use Rattle.hdfs_file_writer.specs.declared.file_writer.FileWriter.{FileWriter}
 use Rattle.hdfs_file_writer.specs.declared.sizes.WriteSizes.{WriteSizes}
 use Rattle.hdfs_file_writer.specs.Tries.{NotSetUp}
-use Rattle.hdfs_file_writer.specs.Writers.{BlockStands, CarriesMore, OnlyOwnLink, Stands, Tallies, Wrote, rebuilds_by, rebuilds_of, FailsOtherwise, IsAnswered, Keeps, MayAdd, tail_of}
+use Rattle.hdfs_file_writer.specs.Writers.{BlockStands, CarriesMore, OnlyOwnLink, Stands, Tallies, Wrote, rebuilds_of, FailsOtherwise, IsAnswered, Keeps, MayAdd, tail_of}
 use Rattle.hdfs_file_writer.proofs.Steps.{Shows}
 use Rattle.hdfs_cluster.specs.declared.asks.Answer.{Answer}
 use Rattle.hdfs_cluster.specs.declared.asks.Ask.{Ask}
@@ -26,9 +26,10 @@ use Rattle.hdfs_namenode.specs.Asked.{IsServiceOf}
 use Rattle.hdfs_namenode.specs.Clients.{SameClient, name_of, proxy_of, through}
 use Rattle.hdfs_namenode.specs.declared.protocol.NamenodeProtocol.{NamenodeProtocol}
 use Rattle.hdfs_namenode.proofs.Services.{same_client_trans, service_same}
-use Rattle.hdfs_file_writer.specs.Tails.{IsFull}
+use Rattle.hdfs_file_writer.specs.Tails.{IsFull, going_of}
 use Rattle.hdfs_file_writer.proofs.Allowed.{at_file}
 use Rattle.hdfs_file_writer.proofs.Joining.{fails_after, keeps_trans, wrote_trans}
+use Rattle.hdfs_file_writer.proofs.LastBlocks.{no_rebuilds}
 
 -- what holds of the picture holds of the one that is seen
 pub shows_seen : (view : View) (P : Picture → Type 0) (s : Shown) → Shows P s → Shows P (see view s)
@@ -81,7 +82,6 @@ stands_seen view s {writer} h = record {
   is_open = h.is_open;
   idle = h.idle;
   reopened = h.reopened;
-  apart = h.apart;
   done = h.done;
 }
 
@@ -92,7 +92,6 @@ stands_shown view s {writer} h = record {
   is_open = h.is_open;
   idle = h.idle;
   reopened = h.reopened;
-  apart = h.apart;
   done = h.done;
 }
 
@@ -128,16 +127,16 @@ times_seen view zero s t h = later_seen view s t h
 times_seen view (suc times) s t h = (see view h.0, times_seen view times s h.0 h.1, later_seen view h.0 t h.2, h.3)
 
 -- Where no block is being written, a tally is one of the calls alone.
-tallies_seen : (view : View) (s t : Shown) (writer writer' : FileWriter) → writer.going ≡ None → Tallies s writer t writer'
+tallies_seen : (view : View) (s t : Shown) (writer writer' : FileWriter) → going_of writer.tail ≡ None → Tallies s writer t writer'
     → Tallies (see view s) writer (see view t) writer'
 tallies_seen view s t writer writer' none h start fails =
-    let idle : rebuilds_of writer ≡ 0 = ap rebuilds_by none in
+    let idle : rebuilds_of writer ≡ 0 = no_rebuilds writer.tail none in
     let times : NodesFailTimes (rebuilds_of writer') s t = h s (subst (λ (n : ℕ). NodesFailTimes n s s) (sym idle) (later_refl s)) in
     fails_since (rebuilds_of writer') start (see view s) (see view t) (fails_later (rebuilds_of writer) start (see view s) fails)
     (times_seen view (rebuilds_of writer') s t times)
 
 -- what was written without a namenode
-pub wrote_seen : (view : View) {s t : Shown} {writer writer' : FileWriter} {more : List ℕ} → writer.going ≡ None → Wrote s writer more t writer'
+pub wrote_seen : (view : View) {s t : Shown} {writer writer' : FileWriter} {more : List ℕ} → going_of writer.tail ≡ None → Wrote s writer more t writer'
     → Wrote (see view s) writer more (see view t) writer'
 wrote_seen view {s} {t} {writer} {writer'} {more} none h = record {
   keeps = h.keeps;

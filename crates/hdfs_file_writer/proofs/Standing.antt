@@ -1,7 +1,7 @@
 -- How a writer of a file stands behind each step, and what the step has done.
 use Rattle.std.proofs.Common.{◌≡◌, inl, inr, ⊎_elim, ℕ, ◌<◌, ◌≤◌, min, Bool, true, false, List, [], Option, Some, None, IsSome, refl, sym, ◌∙◌, ap, subst, arith}
 use Rattle.std.proofs.lemmas.Bool.{cases_lt, false≢true}
-use Rattle.std.specs.Prelude.{Ok, Err, IfSome}
+use Rattle.std.specs.Prelude.{Ok, Err}
 use Rattle.hdfs_cluster.specs.declared.asks.Answer.TheVariants as answers
 use Rattle.hdfs_cluster.specs.Asks.{add_block_ask}
 use Rattle.hdfs_cluster.specs.declared.asks.LinkFault.{LinkFault}
@@ -12,7 +12,6 @@ use Rattle.hdfs_cluster.specs.declared.messages.DatanodeInfo.{DatanodeInfo}
 use Rattle.hdfs_cluster.specs.declared.messages.LocatedBlock.{LocatedBlock}
 use Rattle.hdfs_cluster.specs.declared.messages.Setup.{Setup}
 use Rattle.hdfs_cluster.specs.Failures.{SetupsFailed}
-use Rattle.hdfs_cluster.specs.Namenode.{IsToWrite}
 use Rattle.hdfs_cluster.specs.Pipes.{WriteNotOpened}
 use Rattle.hdfs_cluster.specs.Shown.{SameNodes, Shown}
 use Rattle.hdfs_cluster.specs.Sound.{IsSound}
@@ -28,13 +27,16 @@ use Rattle.hdfs_block_writer.proofs.Wrote.{pipe_is}
 use Rattle.hdfs_file_writer.specs.declared.file_writer.FileWriter.{FileWriter}
 use Rattle.hdfs_file_writer.specs.declared.sizes.WriteSizes.{WriteSizes}
 use Rattle.hdfs_file_writer.specs.Faults.{is_of_setup}
-use Rattle.hdfs_file_writer.specs.Tails.{IsFull}
-use Rattle.hdfs_file_writer.specs.Writers.{AreLimited, ArePackets, AreSizes, plan_of, link_of, link_by, tail_by, tail_of, Keeps, Stands, IsBetweenBlocks, HasRoom, BlockStands, IsPlanOf, OnlyOwnLink, Wrote, Adds, FailsOtherwise, rebuilds_by}
+use Rattle.hdfs_file_writer.specs.Tails.{last_of, going_of, GoesOn, HasRoom, IsFull}
+use Rattle.hdfs_file_writer.specs.declared.tails.Tail.{Tail}
+use Rattle.hdfs_file_writer.specs.declared.tails.Tail.TheVariants.{Bare, Done, Reopened, Going}
+use Rattle.hdfs_file_writer.specs.Writers.{AreLimited, ArePackets, AreSizes, plan_of, link_of, link_by, tail_of, Keeps, Stands, IsBetweenBlocks, BlockStands, IsPlanOf, OnlyOwnLink, Wrote, Adds, FailsOtherwise, rebuilds_by}
 use Rattle.hdfs_namenode.specs.Relaying.{Came}
 use Rattle.hdfs_file_writer.proofs.Joining.{fails_after}
 use Rattle.hdfs_file_writer.proofs.Moving.{own_link_refl, own_link_left, own_link_opened, own_link_trans, own_link_unopened, only_file_refl}
 use Rattle.hdfs_file_writer.proofs.Placing.{some_none}
 use Rattle.hdfs_file_writer.proofs.Steps.{Shows, ended_carries, gave_up_touches, gave_up_cause, unopened_cause, wrote_carries, added_carries, opened_carries, settled_carries, touches_behind, unopened_touches, unopened_tells, unopened_apart, unanswered_touches, unanswered_rose}
+use Rattle.hdfs_file_writer.proofs.LastBlocks.{no_link}
 use Rattle.hdfs_file_writer.proofs.Tallying.{limit_behind, limit_given_up, no_limit, rebuilds_new, tallies_anew, tallies_more, unopened_no_limit}
 use Rattle.hdfs_file_writer.proofs.Telling.{tells_asked, apart_asked, tells_fault, apart_fault, asked_cause}
 
@@ -78,17 +80,25 @@ plan_stays keeps stays of = record {
   replication = stays.replication ∙ of.replication ∙ ap (λ (s : WriteSizes). s.replication) (sym keeps.sizes);
 }
 
-module _ (a b : Shown) (sound : Shows IsSound a) (sound' : Shows IsSound b) (w : FileWriter) (block : BlockWriter) (going : w.going ≡ Some block) where
+-- one block is being written
+same_going : {t : Tail} {block other : BlockWriter} → t ≡ Going block → t ≡ Going other → block ≡ other
+same_going one two = cc (sym one ∙ two)
+
+-- and then none is to be gone on with
+apart_going : {t : Tail} {block : BlockWriter} {found : LocatedBlock} → t ≡ Going block → t ≡ Reopened found → ⊥
+apart_going one two = cc (sym one ∙ two)
+
+module _ (a b : Shown) (sound : Shows IsSound a) (sound' : Shows IsSound b) (w : FileWriter) (block : BlockWriter) (going : w.tail ≡ Going block) where
   own_from : (x : Option ℕ) → OnlyOwnLink a (block_link block) b x → OnlyOwnLink a (link_of w) b x
-  own_from x own = subst (λ (g : Option BlockWriter). OnlyOwnLink a (link_by g) b x) (sym going) own
+  own_from x own = subst (λ (t : Tail). OnlyOwnLink a (link_by t) b x) (sym going) own
 
   -- its block was ended
-  pub ended_wrote : (w' : FileWriter) → Keeps w w' → IsBetweenBlocks w' → (named : Block) → w'.last ≡ Some named → Closes a block named b → Wrote a w [] b w'
-  ended_wrote w' keeps between named last closes = record {
+  pub ended_wrote : (w' : FileWriter) → Keeps w w' → (named : Block) → w'.tail ≡ Done named → Closes a block named b → Wrote a w [] b w'
+  ended_wrote w' keeps named done closes = record {
     keeps = keeps;
-    own = subst (λ (g : Option BlockWriter). OnlyOwnLink a (link_of w) b (link_by g)) (sym between.none) (own_from None closes.2.own);
-    tallies = tallies_anew a b w w' (ap rebuilds_by between.none) closes.2.own.later;
-    carries = ended_carries a b sound sound' w block going w' between named last closes;
+    own = subst (λ (t : Tail). OnlyOwnLink a (link_of w) b (link_by t)) (sym done) (own_from None closes.2.own);
+    tallies = tallies_anew a b w w' (ap rebuilds_by done) closes.2.own.later;
+    carries = ended_carries a b sound sound' w block going w' named done closes;
   }
 
   -- its block was given up
@@ -118,10 +128,10 @@ module _ (a b : Shown) (sound : Shows IsSound a) (sound' : Shows IsSound b) (w :
 
   -- more bytes went into its block
   pub more_wrote : (w' : FileWriter) (block' : BlockWriter) (more : List ℕ) → Stands a w → w.failed ≡ false → Keeps w w'
-      → w'.going ≡ Some block' → BlockWrote a block more b block' → StandsItself b block' → Wrote a w more b w'
+      → w'.tail ≡ Going block' → BlockWrote a block more b block' → StandsItself b block' → Wrote a w more b w'
   more_wrote w' block' more stands fine keeps going' wrote itself = record {
     keeps = keeps;
-    own = own_from (link_of w') (subst (λ (g : Option BlockWriter). OnlyOwnLink a (block_link block) b (link_by g)) (sym going') wrote.own);
+    own = own_from (link_of w') (subst (λ (t : Tail). OnlyOwnLink a (block_link block) b (link_by t)) (sym going') wrote.own);
     tallies = tallies_more w w' going (has_pipe block (stands.is_open fine block going)).1 going' wrote;
     carries = wrote_carries a b sound sound' w block going w' block' more going' (more_within block' more stands fine wrote itself) wrote;
   }
@@ -135,11 +145,11 @@ module _ (a b : Shown) (sound : Shows IsSound a) (sound' : Shows IsSound b) (w :
       let same : stays.0 ≡ pipe = pipe_is stays.0 pipe (sym stays.1 ∙ is) in
       plan_stays keeps (subst (λ (x : BlockPipeline). KeepsBlock before.0.plan x.plan) same stays.2) ((stands.going block going).plan before.0 before.1)
 
-  pub more_stands : (w' : FileWriter) (block' : BlockWriter) (more : List ℕ) → Stands a w → w.failed ≡ false → w'.failed ≡ false → Keeps w w' → w'.going ≡ Some block' → w'.reopened ≡ w.reopened → BlockWrote a block more b block' → StandsItself b block' → Stands b w'
-  more_stands w' block' more stands fine fine' keeps going' rest wrote itself = record {
+  pub more_stands : (w' : FileWriter) (block' : BlockWriter) (more : List ℕ) → Stands a w → w.failed ≡ false → w'.failed ≡ false → Keeps w w' → w'.tail ≡ Going block' → BlockWrote a block more b block' → StandsItself b block' → Stands b w'
+  more_stands w' block' more stands fine fine' keeps going' wrote itself = record {
     packets = subst (λ (s : WriteSizes). ArePackets s) (sym keeps.sizes) stands.packets;
     going = λ other is.
-        (let same : block' ≡ other = cc (going', is) in
+        (let same : block' ≡ other = same_going going' is in
         subst (λ (x : BlockWriter). BlockStands b w'.path w'.sizes x) same (record {
           limited = subst (λ (s : WriteSizes). AreLimited s) (sym keeps.sizes) (stands.going block going).limited;
           stands = itself;
@@ -151,44 +161,43 @@ module _ (a b : Shown) (sound : Shows IsSound a) (sound' : Shows IsSound b) (w :
           plan = plan_more w' block' more stands fine keeps wrote;
         }));
     is_open = λ fine'' other is.
-        (let same : block' ≡ other = cc (going', is) in
+        (let same : block' ≡ other = same_going going' is in
         subst (λ (x : BlockWriter). IsSome (block_link x)) same (still_open a b block block' more wrote (stands.is_open fine block going)));
     idle = λ failed. absurd (false≢true (sym fine' ∙ failed));
-    reopened = subst (λ (o : Option LocatedBlock). IfSome o IsToWrite) (sym rest) stands.reopened;
-    apart = λ some. (let none : w.going ≡ None = stands.apart (subst IsSome rest some) in absurd (cc (none, going)));
-    done = λ fine'' none. absurd (cc (none, going'));
+    reopened = λ found is. absurd (apart_going going' is);
+    done = λ fine''. ap last_of going';
   }
 
-pub idle_own : (a x : Shown) (w : FileWriter) (y : Option ℕ) → w.going ≡ None → OnlyOwnLink a None x y → OnlyOwnLink a (link_of w) x y
-idle_own a x w y none own = subst (λ (g : Option BlockWriter). OnlyOwnLink a (link_by g) x y) (sym none) own
+-- a writer that keeps no link
+pub idle_own : (a x : Shown) (w : FileWriter) (y : Option ℕ) → link_of w ≡ None → OnlyOwnLink a None x y → OnlyOwnLink a (link_of w) x y
+idle_own a x w y none own = subst (λ (l : Option ℕ). OnlyOwnLink a l x y) (sym none) own
 
 -- a writer of a file that asks for a block
 module _ (a m : Shown) (sound : Shows IsSound a) (w : FileWriter) (between : IsBetweenBlocks w) (client : List ℕ) (excluded : List DatanodeInfo) where
-  added_wrote : (found : LocatedBlock) → found.b.num_bytes ≡ 0 → IsFull w.sizes.block_size (tail_of w) → Came a (add_block_ask w.path client w.last excluded w.file_id) (Ok (answers.AddBlock found)) m → Wrote a w [] m (record w { going = None; reopened = Some found })
+  added_wrote : (found : LocatedBlock) → found.b.num_bytes ≡ 0 → IsFull w.sizes.block_size (tail_of w) → Came a (add_block_ask w.path client (last_of w.tail) excluded w.file_id) (Ok (answers.AddBlock found)) m → Wrote a w [] m (record w { tail = Reopened found })
   added_wrote found empty full came = record {
     keeps = record { path = refl; file_id = refl; sizes = refl };
-    own = idle_own a m w None between.none (own_link_left a m None came.relays.leaves);
-    tallies = tallies_anew a m w (record w { going = None; reopened = Some found }) refl came.relays.leaves.later;
+    own = idle_own a m w None (no_link w.tail between.none) (own_link_left a m None came.relays.leaves);
+    tallies = tallies_anew a m w (record w { tail = Reopened found }) refl came.relays.leaves.later;
     carries = added_carries a m sound w between client excluded found empty full came;
   }
 
   -- it has one more
-  pub answered_adds : (found : LocatedBlock) → IsFull w.sizes.block_size (tail_of w) → Came a (add_block_ask w.path client w.last excluded w.file_id) (Ok (answers.AddBlock found)) m
+  pub answered_adds : (found : LocatedBlock) → IsFull w.sizes.block_size (tail_of w) → Came a (add_block_ask w.path client (last_of w.tail) excluded w.file_id) (Ok (answers.AddBlock found)) m
       → Adds client excluded a w found m
   answered_adds found full came = record {
     came = came;
     block = came.relays.shaped.0;
     empty = came.relays.shaped.1;
     nodes = came.relays.leaves.nodes;
-    wrote = subst (λ (g : Option BlockWriter). Wrote a w [] m (record w { going = g; reopened = Some found })) (sym between.none)
-        (added_wrote found came.relays.shaped.1 full came);
+    wrote = added_wrote found came.relays.shaped.1 full came;
   }
 
   -- or there was no answer
-  pub unanswered_fails : (error : HdfsError) → Came a (add_block_ask w.path client w.last excluded w.file_id) (Err error) m → FailsOtherwise a w error m
+  pub unanswered_fails : (error : HdfsError) → Came a (add_block_ask w.path client (last_of w.tail) excluded w.file_id) (Err error) m → FailsOtherwise a w error m
   unanswered_fails error came = record {
     fails = record {
-      own = idle_own a m w None between.none (own_link_left a m None came.relays.leaves);
+      own = idle_own a m w None (no_link w.tail between.none) (own_link_left a m None came.relays.leaves);
       tells = tells_asked a m error came.relays.tells;
       limit = λ start n is fails. absurd (no_limit came.relays.tells.0 is);
       refused = λ refusal. absurd (apart_asked error came.relays.tells.0 refusal);
@@ -200,16 +209,16 @@ module _ (a m : Shown) (sound : Shows IsSound a) (w : FileWriter) (between : IsB
   }
 
 -- a writer of a file that opens the pipeline of a block
-module _ (m b : Shown) (w : FileWriter) (found : LocatedBlock) (none : w.going ≡ None) (reopened : w.reopened ≡ Some found) where
-  pub opened_wrote : (w' : FileWriter) (block : BlockWriter) (created : Bool) (settings : RebuildSettings) (size packet : ℕ) (setup : Setup) → Keeps w w' → w'.going ≡ Some block → IsNew (plan_of w found created) settings size packet block
+module _ (m b : Shown) (w : FileWriter) (found : LocatedBlock) (reopened : w.tail ≡ Reopened found) where
+  pub opened_wrote : (w' : FileWriter) (block : BlockWriter) (created : Bool) (settings : RebuildSettings) (size packet : ℕ) (setup : Setup) → Keeps w w' → w'.tail ≡ Going block → IsNew (plan_of w found created) settings size packet block
       → OpensLink m setup block b → BeginsWhole m (plan_of w found created) block b → Wrote m w [] b w'
   opened_wrote w' block created settings size packet setup keeps going' new opens begins = record {
     keeps = keeps;
-    own = idle_own m b w (link_of w') none
-        (subst (λ (g : Option BlockWriter). OnlyOwnLink m None b (link_by g)) (sym going')
+    own = idle_own m b w (link_of w') (ap link_by reopened)
+        (subst (λ (t : Tail). OnlyOwnLink m None b (link_by t)) (sym going')
         (own_link_opened m b setup opens.0 (block_link block) opens.1 opens.2));
     tallies = tallies_anew m b w w' (rebuilds_new w' going' new) opens.2.only.later;
-    carries = opened_carries m b w found none reopened w' block created settings size packet setup going' new opens begins;
+    carries = opened_carries m b w found reopened w' block created settings size packet setup going' new opens begins;
   }
 
   -- It isn't set up, behind calls of a writer from which on first pipelines couldn't be.
@@ -220,12 +229,12 @@ module _ (m b : Shown) (w : FileWriter) (found : LocatedBlock) (none : w.going �
       fails = record {
         own =
             own_link_trans start m b (link_of x) (link_of w) None wrote.own
-            (idle_own m b w None none (own_link_unopened m b setup fault None not_opened));
+            (idle_own m b w None (ap link_by reopened) (own_link_unopened m b setup fault None not_opened));
         tells = unopened_tells x.sizes.setup_limit start b fault setups;
         limit = limit_behind b (fault_of fault) wrote (λ from n is fails. absurd (unopened_no_limit fault n is));
         refused = λ refusal. absurd (unopened_apart fault refusal);
         touches =
-            touches_behind start m b x w [] wrote.keeps.path wrote.carries (unopened_touches m b w found none reopened setup fault not_opened);
+            touches_behind start m b x w [] wrote.keeps.path wrote.carries (unopened_touches m b w found reopened setup fault not_opened);
         cause = λ p bytes told c. unopened_cause x.sizes x.path start b fault setups;
       };
       apart = unopened_apart fault;
@@ -236,18 +245,18 @@ module _ (m b : Shown) (w : FileWriter) (found : LocatedBlock) (none : w.going �
     unopened_fails fault setups (inl (memory, same)) =
         subst (λ (f : HdfsError). FailsOtherwise start x f b) (sym memory)
         (subst (λ (s : Shown). FailsOtherwise start x errors.NoMemory s) (sym same)
-        (fails_after start m m x w [] errors.NoMemory wrote (starved_fails m w (ap link_by none))))
+        (fails_after start m m x w [] errors.NoMemory wrote (starved_fails m w (ap link_by reopened))))
     unopened_fails fault setups (inr (why, is, not_opened)) =
         subst (λ (f : HdfsError). FailsOtherwise start x f b) (sym is)
         (not_opened_fails why (λ of. setups (ap is_of_setup is ∙ of)) not_opened)
 
 -- a block that isn't gone on with is done
-pub settled_wrote : (a : Shown) (w w' : FileWriter) (found : LocatedBlock) → Keeps w w' → w.going ≡ None → w.reopened ≡ Some found → IsBetweenBlocks w' → w'.last ≡ Some found.b → Wrote a w [] a w'
-settled_wrote a w w' found keeps none reopened between last = record {
+pub settled_wrote : (a : Shown) (w w' : FileWriter) (found : LocatedBlock) → Keeps w w' → w.tail ≡ Reopened found → w'.tail ≡ Done found.b → Wrote a w [] a w'
+settled_wrote a w w' found keeps reopened done = record {
   keeps = keeps;
-  own = idle_own a a w (link_of w') none (subst (λ (g : Option BlockWriter). OnlyOwnLink a None a (link_by g)) (sym between.none) (own_link_refl a None));
-  tallies = tallies_anew a a w w' (ap rebuilds_by between.none) (later_refl a);
-  carries = settled_carries a w w' found none reopened between last;
+  own = idle_own a a w (link_of w') (ap link_by reopened) (subst (λ (t : Tail). OnlyOwnLink a None a (link_by t)) (sym done) (own_link_refl a None));
+  tallies = tallies_anew a a w w' (ap rebuilds_by done) (later_refl a);
+  carries = settled_carries a w w' found reopened done;
 }
 
 -- a block that was begun is one of the file
@@ -262,12 +271,12 @@ plan_begun {w' = w'} keeps new pipe is =
     })
 
 -- a writer of a file whose block was begun
-pub begun_stands : (b m : Shown) (w w' : FileWriter) (block : BlockWriter) (found : LocatedBlock) (created : Bool) (setup : Setup) → AreSizes w.sizes → w.sizes.encrypted ≡ false → w'.failed ≡ false → Keeps w w' → w'.going ≡ Some block → w'.reopened ≡ None
+pub begun_stands : (b m : Shown) (w w' : FileWriter) (block : BlockWriter) (found : LocatedBlock) (created : Bool) (setup : Setup) → AreSizes w.sizes → w.sizes.encrypted ≡ false → w'.failed ≡ false → Keeps w w' → w'.tail ≡ Going block
     → StandsItself b block → IsNew (plan_of w found created) w.sizes.rebuilding w.sizes.block_size w.sizes.packet_size block → OpensLink m setup block b → Stands b w'
-begun_stands b m w w' block found created setup sizes plain fine keeps going done itself new opens = record {
+begun_stands b m w w' block found created setup sizes plain fine keeps going itself new opens = record {
   packets = subst (λ (s : WriteSizes). ArePackets s) (sym keeps.sizes) sizes.packets;
   going = λ other is.
-      (let one : block ≡ other = cc (going, is) in
+      (let one : block ≡ other = same_going going is in
       subst (λ (x : BlockWriter). BlockStands b w'.path w'.sizes x) one (record {
         limited = subst (λ (s : WriteSizes). AreLimited s) (sym keeps.sizes) sizes.limited;
         stands = itself;
@@ -279,63 +288,60 @@ begun_stands b m w w' block found created setup sizes plain fine keeps going don
         plan = plan_begun keeps new;
       }));
   is_open = λ fine' other is.
-      (let one : block ≡ other = cc (going, is) in
+      (let one : block ≡ other = same_going going is in
       subst (λ (x : BlockWriter). IsSome (block_link x)) one (subst IsSome (sym opens.1) refl));
   idle = λ failed. absurd (false≢true (sym fine ∙ failed));
-  reopened = subst (λ (o : Option LocatedBlock). IfSome o IsToWrite) (sym done) tt;
-  apart = λ some. absurd (some_none w'.reopened some done);
-  done = λ fine' none. absurd (cc (none, going));
+  reopened = λ located is. absurd (apart_going going is);
+  done = λ fine'. ap last_of going;
 }
 
 -- A writer that stands has filled its last block where it has no room in it, and none is to be gone on with that has room.
-pub full_without_room : (shown : Shown) (w : FileWriter) → Stands shown w → w.failed ≡ false → (HasRoom w → ⊥)
-    → IfSome w.reopened (λ located. w.sizes.block_size ≤ located.b.num_bytes) → IsFull w.sizes.block_size (tail_of w)
-full_without_room shown w stands fine never long = by_parts w.going w.reopened w.last refl refl refl
+pub full_without_room : (shown : Shown) (w : FileWriter) → Stands shown w → w.failed ≡ false → (HasRoom w.tail → ⊥)
+    → (GoesOn w.sizes.block_size w.tail → ⊥) → IsFull w.sizes.block_size (tail_of w)
+full_without_room shown w stands fine never short = by_tail w.tail refl never short
   where
-    by_parts : (g : Option BlockWriter) (o : Option LocatedBlock) (l : Option Block) → w.going ≡ g → w.reopened ≡ o → w.last ≡ l
-        → IsFull w.sizes.block_size (tail_by g o l)
-    by_parts (Some block) o l going reopened last =
+    by_tail : (t : Tail) → w.tail ≡ t → (HasRoom t → ⊥) → (GoesOn w.sizes.block_size t → ⊥) → IsFull w.sizes.block_size t
+    by_tail Bare is no_room ends = tt
+    by_tail (Done block) is no_room ends = absurd (cc (sym (ap last_of is) ∙ stands.done fine))
+    by_tail (Reopened located) is no_room ends =
+        ⊎_elim (λ less. absurd (ends less)) (λ full. full) (cases_lt located.b.num_bytes w.sizes.block_size)
+    by_tail (Going block) is no_room ends =
         ⊎_elim
-        (λ less. absurd (never (block, going, λ same. absurd (omega (arith, less, same)))))
-        (λ full. omega (arith, full, (stands.going block going).size))
+        (λ less. absurd (no_room (λ same. absurd (omega (arith, less, same)))))
+        (λ full. omega (arith, full, (stands.going block is).size))
         (cases_lt (length_of block) (size_of block))
-    by_parts None (Some located) l going reopened last =
-        subst (λ (x : Option LocatedBlock). IfSome x (λ found. w.sizes.block_size ≤ found.b.num_bytes)) reopened long
-    by_parts None None (Some block) going reopened last = absurd (let none : w.last ≡ None = stands.done fine going in cc (none, last))
-    by_parts None None None going reopened last = tt
 
 -- no datanode has failed where nothing was done
 pub same_nodes : (a b : Shown) → b ≡ a → SameNodes a b
 same_nodes a b same d = ap (λ (x : Shown). x.counts.nodes d) same
 
 -- no block is being written where data is to be encrypted
-pub encrypted_none : (shown : Shown) (w : FileWriter) → Stands shown w → w.sizes.encrypted ≡ true → w.going ≡ None
-encrypted_none shown w stands encrypted = by_going w.going refl
+pub encrypted_none : (shown : Shown) (w : FileWriter) → Stands shown w → w.sizes.encrypted ≡ true → going_of w.tail ≡ None
+encrypted_none shown w stands encrypted = by_tail w.tail refl
   where
-    by_going : (g : Option BlockWriter) → w.going ≡ g → g ≡ None
-    by_going None is = refl
-    by_going (Some block) is = absurd (false≢true (sym (stands.going block is).plain ∙ encrypted))
+    by_tail : (t : Tail) → w.tail ≡ t → going_of t ≡ None
+    by_tail (Going block) is = absurd (false≢true (sym (stands.going block is).plain ∙ encrypted))
+    by_tail tail is = refl
 
 -- and none by a writer that hasn't failed and keeps no link
-pub idle_none : (shown : Shown) (w : FileWriter) → Stands shown w → w.failed ≡ false → link_of w ≡ None → w.going ≡ None
-idle_none shown w stands fine idle = by_going w.going refl idle
+pub idle_none : (shown : Shown) (w : FileWriter) → Stands shown w → w.failed ≡ false → link_of w ≡ None → going_of w.tail ≡ None
+idle_none shown w stands fine idle = by_tail w.tail refl idle
   where
-    by_going : (g : Option BlockWriter) → w.going ≡ g → link_by g ≡ None → g ≡ None
-    by_going None is none = refl
-    by_going (Some block) is none = absurd (some_none (block_link block) (stands.is_open fine block is) none)
+    by_tail : (t : Tail) → w.tail ≡ t → link_by t ≡ None → going_of t ≡ None
+    by_tail (Going block) is none = absurd (some_none (block_link block) (stands.is_open fine block is) none)
+    by_tail tail is none = refl
 
 -- the least of two that are some is some
 pub min_some : (n a b : ℕ) → n ≡ min a b → 0 < a → 0 < b → (0 < n) × (n ≤ a)
 min_some n a b is one two = (omega (arith, is, one, two), omega (arith, is))
 
--- a writer that has failed keeps no link
-pub failed_stands : (shown shown' : Shown) (w w' : FileWriter) → Stands shown w → Keeps w w' → IsBetweenBlocks w' → w'.failed ≡ true → Stands shown' w'
-failed_stands shown shown' w w' stands keeps between failed = record {
+-- a writer that has failed keeps no block
+pub failed_stands : (shown shown' : Shown) (w w' : FileWriter) → Stands shown w → Keeps w w' → w'.tail ≡ Bare → w'.failed ≡ true → Stands shown' w'
+failed_stands shown shown' w w' stands keeps bare failed = record {
   packets = subst (λ (s : WriteSizes). ArePackets s) (sym keeps.sizes) stands.packets;
-  going = λ block is. absurd (let none : w'.going ≡ None = between.none in cc (none, is));
-  is_open = λ fine block is. absurd (let none : w'.going ≡ None = between.none in cc (none, is));
-  idle = λ is. ap link_by between.none;
-  reopened = subst (λ (o : Option LocatedBlock). IfSome o IsToWrite) (sym between.done) tt;
-  apart = λ some. between.none;
-  done = λ fine none. absurd (false≢true (sym fine ∙ failed));
+  going = λ block is. absurd (cc (sym bare ∙ is));
+  is_open = λ fine block is. absurd (cc (sym bare ∙ is));
+  idle = λ is. ap link_by bare;
+  reopened = λ located is. absurd (cc (sym bare ∙ is));
+  done = λ fine. ap last_of bare;
 }

@@ -38,12 +38,14 @@ use Rattle.hdfs_file_writer.specs.declared.sizes.WriteSizes.{WriteSizes}
 use Rattle.hdfs_file_writer.specs.Failing.{TellsWrite, CauseOfWrite, IsNoRefusal}
 use Rattle.hdfs_file_writer.specs.Faults.{is_of_setup}
 use Rattle.hdfs_file_writer.specs.OnlyFiles.{OnlyFile, SameFile}
-use Rattle.hdfs_file_writer.specs.Tails.{Tail, Finished, Reopened, Going, tail_length, IsFull, FillsBlocks, StoresFront, TailCarries, FileCarries}
+use Rattle.hdfs_file_writer.specs.Tails.{last_of, tail_length, IsFull, FillsBlocks, StoresFront, TailCarries, FileCarries}
+use Rattle.hdfs_file_writer.specs.declared.tails.Tail.{Tail}
+use Rattle.hdfs_file_writer.specs.declared.tails.Tail.TheVariants.{Done, Reopened, Going}
 use Rattle.hdfs_file_writer.specs.WholeBlocks.{StaysWhole}
-use Rattle.hdfs_file_writer.specs.Writers.{BlockStands, blocks_in, plan_of, tail_done, tail_by, tail_of, IsBetweenBlocks, CarriesMore, TouchesFile, LeavesFile}
+use Rattle.hdfs_file_writer.specs.Writers.{BlockStands, blocks_in, plan_of, tail_done, tail_of, IsBetweenBlocks, CarriesMore, TouchesFile, LeavesFile}
 use Rattle.hdfs_namenode.specs.Relaying.{Came}
 use Rattle.hdfs_file_writer.proofs.Telling.{add_rose, added, not_added, fault_cause}
-use Rattle.hdfs_file_writer.proofs.Blocks.{touches_own, going_more, going_ended, going_whole, tail_going, tail_reopened, tail_between, fills_same, fills_more, fills_trans, fills_grown}
+use Rattle.hdfs_file_writer.proofs.Blocks.{touches_own, going_more, going_ended, going_whole, tail_between, fills_same, fills_more, fills_trans, fills_grown}
 use Rattle.hdfs_file_writer.proofs.Completing.{front_same}
 use Rattle.hdfs_file_writer.proofs.Growing.{adding_repeats, grows}
 use Rattle.hdfs_file_writer.proofs.Moving.{only_file_refl, only_file_trans, same_file_refl, same_file_trans}
@@ -88,24 +90,22 @@ unopened_apart link_faults.Broken refusal = refusal
 unopened_apart link_faults.Refused refusal = refusal
 
 -- what is carried between blocks
-pub as_done : (writer : FileWriter) → IsBetweenBlocks writer → (p : Picture) (path bytes : List ℕ) → FileCarries p path (tail_of writer) bytes → FileCarries p path (tail_done writer.last) bytes
-as_done writer between p path bytes c =
-    subst (λ (o : Option LocatedBlock). FileCarries p path (tail_by None o writer.last) bytes) between.done
-    (subst (λ (g : Option BlockWriter). FileCarries p path (tail_by g writer.reopened writer.last) bytes) between.none c)
+pub as_done : (writer : FileWriter) → IsBetweenBlocks writer → (p : Picture) (path bytes : List ℕ) → FileCarries p path (tail_of writer) bytes
+    → FileCarries p path (tail_done (last_of writer.tail)) bytes
+as_done writer between p path bytes c = subst (λ (t : Tail). FileCarries p path t bytes) (tail_between writer between) c
 
 -- and back
-pub from_done : (p : Picture) (path : List ℕ) (writer : FileWriter) → IsBetweenBlocks writer → (bytes : List ℕ) → FileCarries p path (tail_done writer.last) bytes → FileCarries p path (tail_of writer) bytes
-from_done p path writer between bytes c =
-    subst (λ (g : Option BlockWriter). FileCarries p path (tail_by g writer.reopened writer.last) bytes) (sym between.none)
-    (subst (λ (o : Option LocatedBlock). FileCarries p path (tail_by None o writer.last) bytes) (sym between.done) c)
+pub from_done : (p : Picture) (path : List ℕ) (writer : FileWriter) → IsBetweenBlocks writer → (bytes : List ℕ)
+    → FileCarries p path (tail_done (last_of writer.tail)) bytes → FileCarries p path (tail_of writer) bytes
+from_done p path writer between bytes c = subst (λ (t : Tail). FileCarries p path t bytes) (sym (tail_between writer between)) c
 
-module _ (a b : Shown) (sound : Shows IsSound a) (sound' : Shows IsSound b) (writer : FileWriter) (block : BlockWriter) (going : writer.going ≡ Some block) where
+module _ (a b : Shown) (sound : Shows IsSound a) (sound' : Shows IsSound b) (writer : FileWriter) (block : BlockWriter) (going : writer.tail ≡ Going block) where
   as_going : (p : Picture) (bytes : List ℕ) → FileCarries p writer.path (tail_of writer) bytes → FileCarries p writer.path (Going block) bytes
-  as_going p bytes c = subst (λ (g : Option BlockWriter). FileCarries p writer.path (tail_by g writer.reopened writer.last) bytes) going c
+  as_going p bytes c = subst (λ (t : Tail). FileCarries p writer.path t bytes) going c
 
   -- the block was ended, and has this name
-  pub ended_carries : (writer' : FileWriter) → IsBetweenBlocks writer' → (named : Block) → writer'.last ≡ Some named → Closes a block named b → CarriesMore a writer [] b writer'
-  ended_carries writer' between named last closes p bytes told c =
+  pub ended_carries : (writer' : FileWriter) (named : Block) → writer'.tail ≡ Done named → Closes a block named b → CarriesMore a writer [] b writer'
+  ended_carries writer' named done closes p bytes told c =
       let c' = as_going p bytes c in
       let own = c'.carries.1 in
       let ends = closes.2 in
@@ -117,16 +117,14 @@ module _ (a b : Shown) (sound : Shows IsSound a) (sound' : Shows IsSound b) (wri
         whole.0,
         whole.1,
         subst (FileCarries whole.0 writer.path (tail_of writer')) (sym (append-nil bytes))
-            (from_done whole.0 writer.path writer' between bytes
-            (subst (λ (l : Option Block). FileCarries whole.0 writer.path (tail_done l) bytes) (sym last)
-            (subst (λ (i : ℕ). FileCarries whole.0 writer.path (Finished i named.num_bytes) bytes) (sym same)
-            (subst (λ (n : ℕ). FileCarries whole.0 writer.path (Finished (id_of own.pipe) n) bytes) (sym long)
-            (going_ended p (sound p told) writer.path block bytes c' whole.0 (length_of block) (uuids closes.0.block.locs) only whole.2))))),
+            (subst (λ (t : Tail). FileCarries whole.0 writer.path t bytes) (sym done)
+            (going_ended p (sound p told) writer.path block bytes c' whole.0 named (uuids closes.0.block.locs) same only
+            (subst (λ (n : ℕ). HoldsWhole whole.0 (id_of own.pipe) n (uuids closes.0.block.locs) c'.carries.0) (sym long) whole.2))),
         touches.0,
         touches.1,
         fills_same writer.sizes.block_size (blocks_in p writer) (blocks_in whole.0 writer) (tail_of writer) (tail_of writer')
             (ap blocks_at (only.names writer.path))
-            (ap tail_length (tail_between writer' between ∙ ap tail_done last) ∙ long ∙ sym (ap tail_length (tail_going writer block going))),
+            (ap tail_length done ∙ long ∙ sym (ap tail_length going)),
         going_whole p (sound p told) writer.path block bytes c' whole.0 only writer.sizes.block_size (tail_of writer),
       )
 
@@ -152,7 +150,7 @@ module _ (a b : Shown) (sound : Shows IsSound a) (sound' : Shows IsSound b) (wri
       (subst (λ (r : RebuildSettings). HasCause r own.pipe.plan (IsCarrying block) a fault b) stands.settings gives.cause)
 
   -- more bytes went into it
-  pub wrote_carries : (writer' : FileWriter) (block' : BlockWriter) (more : List ℕ) → writer'.going ≡ Some block' → length_of block' ≤ writer.sizes.block_size → Wrote a block more b block' → CarriesMore a writer more b writer'
+  pub wrote_carries : (writer' : FileWriter) (block' : BlockWriter) (more : List ℕ) → writer'.tail ≡ Going block' → length_of block' ≤ writer.sizes.block_size → Wrote a block more b block' → CarriesMore a writer more b writer'
   wrote_carries writer' block' more going' within wrote p bytes told c =
       let c' = as_going p bytes c in
       let own = c'.carries.1 in
@@ -164,15 +162,15 @@ module _ (a b : Shown) (sound : Shows IsSound a) (sound' : Shows IsSound b) (wri
       subst (λ (x : BlockPipeline). KeepsBlock own.pipe.plan x.plan) (pipe_is stays.0 on.2.pipe (sym stays.1 ∙ on.2.is)) stays.2 in (
         on.0,
         on.1,
-        subst (λ (g : Option BlockWriter). FileCarries on.0 writer.path (tail_by g writer'.reopened writer'.last) (bytes ++ more)) (sym going')
+        subst (λ (t : Tail). FileCarries on.0 writer.path t (bytes ++ more)) (sym going')
             (going_more p (sound p told) writer.path block bytes c' on.0 block' more on.2 keeps only),
         touches.0,
         touches.1,
         fills_more writer.sizes.block_size (blocks_in p writer) (blocks_in on.0 writer) (tail_of writer) (tail_of writer') more
             (ap blocks_at (only.names writer.path))
-            (ap tail_length (tail_going writer' block' going') ∙ wrote.length
-            ∙ ap (λ (t : Tail). tail_length t + length more) (sym (tail_going writer block going)))
-            (subst (λ (t : Tail). tail_length t ≤ writer.sizes.block_size) (sym (tail_going writer' block' going')) within),
+            (ap tail_length going' ∙ wrote.length
+            ∙ ap (λ (t : Tail). tail_length t + length more) (sym going))
+            (subst (λ (t : Tail). tail_length t ≤ writer.sizes.block_size) (sym going') within),
         going_whole p (sound p told) writer.path block bytes c' on.0 only writer.sizes.block_size (tail_of writer),
       )
 
@@ -233,35 +231,35 @@ only_file_started path p q link setup starts = record {
 }
 
 -- a new block stands behind full ones
-fills_behind : (p q : Picture) (w : FileWriter) → IsBetweenBlocks w → (bytes : List ℕ) → FileCarries p w.path (tail_done w.last) bytes
+fills_behind : (p q : Picture) (w : FileWriter) → IsBetweenBlocks w → (bytes : List ℕ) → FileCarries p w.path (tail_done (last_of w.tail)) bytes
     → (size : ℕ) → IsFull size (tail_of w) → (found : LocatedBlock) → found.b.num_bytes ≡ 0
     → length (blocks_in q w) ≡ length (blocks_in p w) + 1 → FillsBlocks size (blocks_in p w) (tail_of w) [] (blocks_in q w) (Reopened found)
 fills_behind p q w between bytes c size full found empty longer =
     let at : c.file.blocks ≡ blocks_in p w = sym (ap blocks_at c.named) in
     subst (λ (t : Tail). FillsBlocks size (blocks_in p w) t [] (blocks_in q w) (Reopened found)) (sym (tail_between w between))
-    (fills_grown p w.path size (blocks_in p w) (blocks_in q w) w.last bytes (Reopened found)
-    (subst (λ (l : List ℕ). TailCarries p w.path l (tail_done w.last) bytes) at c.carries)
+    (fills_grown p w.path size (blocks_in p w) (blocks_in q w) (last_of w.tail) bytes (Reopened found)
+    (subst (λ (l : List ℕ). TailCarries p w.path l (tail_done (last_of w.tail)) bytes) at c.carries)
     (subst (IsFull size) (tail_between w between) full) longer empty)
 
 -- and the blocks before it are whole
-whole_behind : (p q : Picture) → IsSound p → (w : FileWriter) → IsBetweenBlocks w → (bytes : List ℕ) (c : FileCarries p w.path (tail_done w.last) bytes)
-    (size : ℕ) → IsFull size (tail_of w) → {excludes : List DatanodeInfo} (found : LocatedBlock) → AddsBlock w.path c.file w.last excludes found p q
+whole_behind : (p q : Picture) → IsSound p → (w : FileWriter) → IsBetweenBlocks w → (bytes : List ℕ) (c : FileCarries p w.path (tail_done (last_of w.tail)) bytes)
+    (size : ℕ) → IsFull size (tail_of w) → {excludes : List DatanodeInfo} (found : LocatedBlock) → AddsBlock w.path c.file (last_of w.tail) excludes found p q
     → StaysWhole size p (blocks_in p w) (tail_of w) q (blocks_in q w)
 whole_behind p q sound w between bytes c size full found adds =
     subst (λ (l : List ℕ). StaysWhole size p l (tail_of w) q (blocks_in q w)) (sym (ap blocks_at c.named))
     (subst (λ (t : Tail). StaysWhole size p c.file.blocks t q (blocks_in q w)) (sym (tail_between w between))
-    (stays_grown p q sound w.path w.last bytes c found adds size (subst (IsFull size) (tail_between w between) full)))
+    (stays_grown p q sound w.path (last_of w.tail) bytes c found adds size (subst (IsFull size) (tail_between w between) full)))
 
 module _ (a m : Shown) (sound : Shows IsSound a) (writer : FileWriter) (between : IsBetweenBlocks writer) (client : List ℕ)
     (excluded : List DatanodeInfo) where
   -- a block was answered, which is to be written
-  pub added_carries : (found : LocatedBlock) → found.b.num_bytes ≡ 0 → IsFull writer.sizes.block_size (tail_of writer) → Came a (add_block_ask writer.path client writer.last excluded writer.file_id) (Ok (answers.AddBlock found)) m → CarriesMore a writer [] m (record writer { going = None; reopened = Some found })
+  pub added_carries : (found : LocatedBlock) → found.b.num_bytes ≡ 0 → IsFull writer.sizes.block_size (tail_of writer) → Came a (add_block_ask writer.path client (last_of writer.tail) excluded writer.file_id) (Ok (answers.AddBlock found)) m → CarriesMore a writer [] m (record writer { tail = Reopened found })
   added_carries found empty full came p bytes told c =
       let c' = as_done writer between p writer.path bytes c in
-      let one = came.told p told (adding_repeats p (sound p told) writer.path writer.last bytes c' client excluded writer.file_id) in
+      let one = came.told p told (adding_repeats p (sound p told) writer.path (last_of writer.tail) bytes c' client excluded writer.file_id) in
       let q = one.0 in
-      let adds = added (CallsRose a.counts m) writer.path client writer.last excluded writer.file_id p c'.file c'.named q found one.2 in
-      let g = grows p q (sound p told) writer.path writer.last bytes c' found adds in (
+      let adds = added (CallsRose a.counts m) writer.path client (last_of writer.tail) excluded writer.file_id p c'.file c'.named q found one.2 in
+      let g = grows p q (sound p told) writer.path (last_of writer.tail) bytes c' found adds in (
         q,
         one.1,
         subst (FileCarries q writer.path (Reopened found)) (sym (append-nil bytes)) (record {
@@ -277,34 +275,32 @@ module _ (a m : Shown) (sound : Shows IsSound a) (writer : FileWriter) (between 
       )
 
   -- no block was answered
-  pub unanswered_touches : (error : HdfsError) → Came a (add_block_ask writer.path client writer.last excluded writer.file_id) (Err error) m → TouchesFile a writer m
+  pub unanswered_touches : (error : HdfsError) → Came a (add_block_ask writer.path client (last_of writer.tail) excluded writer.file_id) (Err error) m → TouchesFile a writer m
   unanswered_touches error came p bytes told c =
       let c' = as_done writer between p writer.path bytes c in
-      let one = came.told p told (adding_repeats p (sound p told) writer.path writer.last bytes c' client excluded writer.file_id) in (
+      let one = came.told p told (adding_repeats p (sound p told) writer.path (last_of writer.tail) bytes c' client excluded writer.file_id) in (
         one.0,
         one.1,
         ⊎_elim (λ same. only_file_active writer.path p one.0 same)
-            (λ found. (grows p one.0 (sound p told) writer.path writer.last bytes c' found.0 found.1).only)
-            (not_added (CallsRose a.counts m) writer.path client writer.last excluded writer.file_id p c'.file c'.named one.0 error one.2),
+            (λ found. (grows p one.0 (sound p told) writer.path (last_of writer.tail) bytes c' found.0 found.1).only)
+            (not_added (CallsRose a.counts m) writer.path client (last_of writer.tail) excluded writer.file_id p c'.file c'.named one.0 error one.2),
       )
 
   -- but for want of memory, only where a namenode has failed
-  pub unanswered_rose : (error : HdfsError) → (error ≡ errors.NoMemory → ⊥) → Came a (add_block_ask writer.path client writer.last excluded writer.file_id) (Err error) m
+  pub unanswered_rose : (error : HdfsError) → (error ≡ errors.NoMemory → ⊥) → Came a (add_block_ask writer.path client (last_of writer.tail) excluded writer.file_id) (Err error) m
       → (p : Picture) (bytes : List ℕ) → a.picture ≡ Some p → FileCarries p writer.path (tail_of writer) bytes → CallsRose a.counts m
   unanswered_rose error some came p bytes told c =
       let c' = as_done writer between p writer.path bytes c in
-      let one = came.told p told (adding_repeats p (sound p told) writer.path writer.last bytes c' client excluded writer.file_id) in
-      add_rose (CallsRose a.counts m) writer.path client writer.last excluded writer.file_id p c'.file c'.named one.0 error some one.2
+      let one = came.told p told (adding_repeats p (sound p told) writer.path (last_of writer.tail) bytes c' client excluded writer.file_id) in
+      add_rose (CallsRose a.counts m) writer.path client (last_of writer.tail) excluded writer.file_id p c'.file c'.named one.0 error some one.2
 
 -- a block that is to be gone on with
-module _ (m b : Shown) (writer : FileWriter) (found : LocatedBlock) (none : writer.going ≡ None) (reopened : writer.reopened ≡ Some found) where
+module _ (m b : Shown) (writer : FileWriter) (found : LocatedBlock) (reopened : writer.tail ≡ Reopened found) where
   as_reopened : (p : Picture) (bytes : List ℕ) → FileCarries p writer.path (tail_of writer) bytes → FileCarries p writer.path (Reopened found) bytes
-  as_reopened p bytes c =
-      subst (λ (o : Option LocatedBlock). FileCarries p writer.path (tail_by None o writer.last) bytes) reopened
-      (subst (λ (g : Option BlockWriter). FileCarries p writer.path (tail_by g writer.reopened writer.last) bytes) none c)
+  as_reopened p bytes c = subst (λ (t : Tail). FileCarries p writer.path t bytes) reopened c
 
   -- is gone on with
-  pub opened_carries : (writer' : FileWriter) (block : BlockWriter) (created : Bool) (settings : RebuildSettings) (size packet : ℕ) (setup : Setup) → writer'.going ≡ Some block → IsNew (plan_of writer found created) settings size packet block
+  pub opened_carries : (writer' : FileWriter) (block : BlockWriter) (created : Bool) (settings : RebuildSettings) (size packet : ℕ) (setup : Setup) → writer'.tail ≡ Going block → IsNew (plan_of writer found created) settings size packet block
       → OpensLink m setup block b → BeginsWhole m (plan_of writer found created) block b → CarriesMore m writer [] b writer'
   opened_carries writer' block created settings size packet setup going' new opens begins p bytes told c =
       let c' = as_reopened p bytes c in
@@ -323,7 +319,7 @@ module _ (m b : Shown) (writer : FileWriter) (found : LocatedBlock) (none : writ
         r,
         on.1,
         subst (FileCarries r writer.path (tail_of writer')) (sym (append-nil bytes))
-            (subst (λ (o : Option BlockWriter). FileCarries r writer.path (tail_by o writer'.reopened writer'.last) bytes) (sym going') (record {
+            (subst (λ (t : Tail). FileCarries r writer.path t bytes) (sym going') (record {
               file = c'.file;
               named = starts.files.names writer.path ∙ c'.named;
               being_written = c'.being_written;
@@ -333,8 +329,8 @@ module _ (m b : Shown) (writer : FileWriter) (found : LocatedBlock) (none : writ
         λ file is. (file.blocks, starts.files.names writer.path ∙ is),
         fills_same writer.sizes.block_size (blocks_in p writer) (blocks_in r writer) (tail_of writer) (tail_of writer')
             (ap blocks_at (starts.files.names writer.path))
-            (ap tail_length (tail_going writer' block going') ∙ new.length
-            ∙ sym (ap tail_length (tail_reopened writer found none reopened))),
+            (ap tail_length going' ∙ new.length
+            ∙ sym (ap tail_length reopened)),
         stays_kept writer.sizes.block_size p r (blocks_in p writer) (blocks_in r writer) (tail_of writer) (ap blocks_at (starts.files.names writer.path))
             (λ k lt. (starts.files.table (slice_index_or (blocks_in p writer) k 0), λ node. starts.files.held node (slice_index_or (blocks_in p writer) k 0))),
       )
@@ -346,29 +342,28 @@ module _ (m b : Shown) (writer : FileWriter) (found : LocatedBlock) (none : writ
       (after.0, after.1, only_file_active writer.path p after.0 after.2.rest)
 
 -- a block that isn't gone on with is the last that is done
-pub settled_carries : (a : Shown) (writer writer' : FileWriter) (found : LocatedBlock) → writer.going ≡ None → writer.reopened ≡ Some found → IsBetweenBlocks writer' → writer'.last ≡ Some found.b → CarriesMore a writer [] a writer'
-settled_carries a writer writer' found none reopened between last p bytes told c =
-    let c' = as_reopened a a writer found none reopened p bytes c in (
+pub settled_carries : (a : Shown) (writer writer' : FileWriter) (found : LocatedBlock) → writer.tail ≡ Reopened found → writer'.tail ≡ Done found.b
+    → CarriesMore a writer [] a writer'
+settled_carries a writer writer' found reopened done p bytes told c =
+    let c' = as_reopened a a writer found reopened p bytes c in (
       p,
       told,
       subst (FileCarries p writer.path (tail_of writer')) (sym (append-nil bytes))
-          (from_done p writer.path writer' between bytes
-          (subst (λ (l : Option Block). FileCarries p writer.path (tail_done l) bytes) (sym last) (record {
+          (subst (λ (t : Tail). FileCarries p writer.path t bytes) (sym done) (record {
             file = c'.file;
             named = c'.named;
             being_written = c'.being_written;
             carries = (c'.carries.0, c'.carries.1, (uuids found.locs, c'.carries.2));
-          }))),
+          })),
       only_file_refl writer.path p,
       same_file_refl writer.path p,
       fills_same writer.sizes.block_size (blocks_in p writer) (blocks_in p writer) (tail_of writer) (tail_of writer') refl
-          (ap tail_length (tail_between writer' between ∙ ap tail_done last)
-          ∙ sym (ap tail_length (tail_reopened writer found none reopened))),
+          (ap tail_length done ∙ sym (ap tail_length reopened)),
       stays_unchanged writer.sizes.block_size p (blocks_in p writer) (tail_of writer),
     )
 
 -- a block's writer was let go
-pub let_go_leaves : (a b : Shown) → Shows IsSound a → Shows IsSound b → (writer : FileWriter) (block : BlockWriter) → writer.going ≡ Some block → LetsGo a block b → LeavesFile a writer b
+pub let_go_leaves : (a b : Shown) → Shows IsSound a → Shows IsSound b → (writer : FileWriter) (block : BlockWriter) → writer.tail ≡ Going block → LetsGo a block b → LeavesFile a writer b
 let_go_leaves a b sound sound' writer block going gone p bytes told c =
     let c' = as_going a b sound sound' writer block going p bytes c in
     let own = c'.carries.1 in

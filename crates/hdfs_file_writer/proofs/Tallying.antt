@@ -20,6 +20,7 @@ use Rattle.hdfs_block_writer.specs.BlockWriters.{rebuilds_in, Stands as StandsIt
 use Rattle.hdfs_block_writer.specs.OpenPipelines.{HasCause, IsSteady}
 use Rattle.hdfs_block_writer.specs.Written.{GaveUp, IsCarrying, IsNew, Wrote as BlockWrote, fault_of}
 use Rattle.hdfs_file_writer.specs.declared.file_writer.FileWriter.{FileWriter}
+use Rattle.hdfs_file_writer.specs.declared.tails.Tail.TheVariants.{Going}
 use Rattle.hdfs_file_writer.specs.Writers.{EndsTally, Tallies, Wrote, rebuilds_by, rebuilds_of}
 
 -- nothing was done
@@ -41,12 +42,12 @@ tallies_anew a b w w' none later start fails =
     subst (λ (times : ℕ). NodesFailTimes times start b) (sym none) (later_trans start a b (fails_later (rebuilds_of w) start a fails) later)
 
 -- how often that of the block was that is being written
-rebuilds_is : (w : FileWriter) {block : BlockWriter} {pipe : BlockPipeline} → w.going ≡ Some block → block.pipe ≡ Some pipe
+rebuilds_is : (w : FileWriter) {block : BlockWriter} {pipe : BlockPipeline} → w.tail ≡ Going block → block.pipe ≡ Some pipe
     → rebuilds_of w ≡ pipe.plan.rebuilds
 rebuilds_is w going is = ap rebuilds_by going ∙ ap rebuilds_in is
 
 -- not once, where the block was just begun
-pub rebuilds_new : (w : FileWriter) {block : BlockWriter} {plan : BlockPlan} {settings : RebuildSettings} {size packet : ℕ} → w.going ≡ Some block
+pub rebuilds_new : (w : FileWriter) {block : BlockWriter} {plan : BlockPlan} {settings : RebuildSettings} {size packet : ℕ} → w.tail ≡ Going block
     → IsNew plan settings size packet block → rebuilds_of w ≡ plan.rebuilds
 rebuilds_new w going new = rebuilds_is w going new.is ∙ ap (λ (x : BlockPlan). x.rebuilds) new.plan
 
@@ -60,8 +61,8 @@ steady_times start a b pipe pipe' later (inr rebuilt) fails =
     subst (λ (times : ℕ). NodesFailTimes times start b) more (fails_join pipe.plan.rebuilds rebuilt.0 start a b fails rebuilt.3)
 
 -- more bytes went into the block
-pub tallies_more : {a b : Shown} (w w' : FileWriter) {block block' : BlockWriter} {pipe : BlockPipeline} {more : List ℕ} → w.going ≡ Some block
-    → block.pipe ≡ Some pipe → w'.going ≡ Some block' → BlockWrote a block more b block' → Tallies a w b w'
+pub tallies_more : {a b : Shown} (w w' : FileWriter) {block block' : BlockWriter} {pipe : BlockPipeline} {more : List ℕ} → w.tail ≡ Going block
+    → block.pipe ≡ Some pipe → w'.tail ≡ Going block' → BlockWrote a block more b block' → Tallies a w b w'
 tallies_more {a} {b} w w' {pipe = pipe} going is going' wrote start fails =
     let stays = wrote.stays pipe is in
     subst (λ (times : ℕ). NodesFailTimes times start b) (sym (rebuilds_is w' going' stays.1))
@@ -88,7 +89,7 @@ limit_fault start a b settings plan W n (errors.DataTransferError (transfer.Rebu
 limit_fault start a b settings plan W n error within cause is fails = absurd (cc is)
 
 -- the block that is being written was given up
-pub limit_given_up : (a b : Shown) (w : FileWriter) {block : BlockWriter} {pipe : BlockPipeline} (fault : HdfsError) → w.going ≡ Some block
+pub limit_given_up : (a b : Shown) (w : FileWriter) {block : BlockWriter} {pipe : BlockPipeline} (fault : HdfsError) → w.tail ≡ Going block
     → block.pipe ≡ Some pipe → StandsItself a block → GaveUp a block fault b → EndsTally a w fault b
 limit_given_up a b w {block} {pipe} fault going is stands gave start n limit fails =
     limit_fault start a b block.settings pipe.plan (IsCarrying block) n fault (stands pipe is).1.standing.rebuilds (gave pipe is).cause limit

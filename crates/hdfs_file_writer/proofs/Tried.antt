@@ -37,9 +37,10 @@ use Rattle.hdfs_file_writer.specs.declared.new_block.Candidate.{Candidate}
 use Rattle.hdfs_file_writer.specs.declared.new_block.Tries.{Tries}
 use Rattle.hdfs_file_writer.specs.Faults.{is_of_setup}
 use Rattle.hdfs_file_writer.specs.OnlyFiles.{OnlyFile}
-use Rattle.hdfs_file_writer.specs.Tails.{FileCarries}
+use Rattle.hdfs_file_writer.specs.Tails.{FileCarries, last_of}
+use Rattle.hdfs_file_writer.specs.declared.tails.Tail.TheVariants.{Reopened}
 use Rattle.hdfs_file_writer.specs.Tries.{EndsTries, GivesUpNot, HasTried, HaveFailed, IsCandidate, LeavesCandidate, NotSetUp, TriesOn, giving_up}
-use Rattle.hdfs_file_writer.specs.Writers.{Adds, CarriesMore, FailsOtherwise, IsBetweenBlocks, OnlyOwnLink, TouchesFile, Wrote, blocks_in, link_by, link_of, rebuilds_by, tail_done, tail_of}
+use Rattle.hdfs_file_writer.specs.Writers.{Adds, CarriesMore, FailsOtherwise, IsBetweenBlocks, OnlyOwnLink, TouchesFile, Wrote, blocks_in, link_of, tail_done, tail_of}
 use Rattle.hdfs_file_writer.proofs.Telling.{added, apart_asked, asked_cause, tells_asked}
 use Rattle.hdfs_file_writer.proofs.Blocks.{fills_same}
 use Rattle.hdfs_file_writer.proofs.GivingBack.{adds_new, back_blocks, back_carries, back_only, back_same, back_whole, given_back, given_up, may_give_up}
@@ -48,6 +49,7 @@ use Rattle.hdfs_file_writer.proofs.Joining.{calls_since, fails_after, keeps_refl
 use Rattle.hdfs_file_writer.proofs.Moving.{only_file_trans, own_link_left, own_link_trans, own_link_unopened}
 use Rattle.hdfs_file_writer.proofs.Standing.{idle_own, starved_fails, unopened_fails}
 use Rattle.hdfs_file_writer.proofs.Steps.{Shows, as_done, from_done}
+use Rattle.hdfs_file_writer.proofs.LastBlocks.{no_link, no_rebuilds}
 use Rattle.hdfs_file_writer.proofs.Tallying.{no_limit, tallies_anew}
 use Rattle.hdfs_file_writer.proofs.Touching.{only_file_active}
 
@@ -105,19 +107,19 @@ module _ (a m b : Shown) (sound : Shows IsSound a) (sound' : Shows IsSound b) (w
   -- over a told picture
   record WasAdded (p : Picture) (file : FileEntry) : Type 0 where
     pub q : Picture
-    pub added_so : AddsNew w.path file w.last excluded found p q
+    pub added_so : AddsNew w.path file (last_of w.tail) excluded found p q
     pub r : Picture
     pub told : b.picture ≡ Some r
     pub same : SameButActive q r
 
-  was_added : (p : Picture) (bytes : List ℕ) → a.picture ≡ Some p → (carried : FileCarries p w.path (tail_done w.last) bytes) → WasAdded p carried.file
+  was_added : (p : Picture) (bytes : List ℕ) → a.picture ≡ Some p → (carried : FileCarries p w.path (tail_done (last_of w.tail)) bytes) → WasAdded p carried.file
   was_added p bytes told carried =
-      let one = adds.came.told p told (adding_repeats p (sound p told) w.path w.last bytes carried client excluded w.file_id) in
+      let one = adds.came.told p told (adding_repeats p (sound p told) w.path (last_of w.tail) bytes carried client excluded w.file_id) in
       let after = told_after SamePicture m.picture b.picture one.0 not.picture one.1 in
       record {
         q = one.0;
-        added_so = adds_new p one.0 (sound p told) w.path w.last bytes carried found
-            (added (CallsRose a.counts m) w.path client w.last excluded w.file_id p carried.file carried.named one.0 found one.2);
+        added_so = adds_new p one.0 (sound p told) w.path (last_of w.tail) bytes carried found
+            (added (CallsRose a.counts m) w.path client (last_of w.tail) excluded w.file_id p carried.file carried.named one.0 found one.2);
         r = after.0;
         told = after.1;
         same = after.2.rest;
@@ -131,27 +133,27 @@ module _ (a m b : Shown) (sound : Shows IsSound a) (sound' : Shows IsSound b) (w
     later_then : Later a c
     later_then = (own_then None).later
 
-    module _ (p : Picture) (bytes : List ℕ) (told : a.picture ≡ Some p) (carried : FileCarries p w.path (tail_done w.last) bytes) where
+    module _ (p : Picture) (bytes : List ℕ) (told : a.picture ≡ Some p) (carried : FileCarries p w.path (tail_done (last_of w.tail)) bytes) where
       abbrev x : WasAdded p carried.file
       x = was_added p bytes told carried
 
       gave_told : (s : Picture) × (c.picture ≡ Some s) × RelaysTold (CallsRose b.counts c) x.r (giving_up client w found.b) result s
       gave_told =
           gave.told x.r x.told
-          (may_give_up p x.q x.r (sound p told) w.path w.last bytes carried found x.added_so x.same (sound' x.r x.told) client w.file_id)
+          (may_give_up p x.q x.r (sound p told) w.path (last_of w.tail) bytes carried found x.added_so x.same (sound' x.r x.told) client w.file_id)
 
       back_by : (s : Picture) (answer : Answer) → Row x.r (giving_up client w found.b) answer s
-          → Changes p s (with_entry p.names w.path carried.file) (with_length p.table w.last)
+          → Changes p s (with_entry p.names w.path carried.file) (with_length p.table (last_of w.tail))
       back_by s answer row =
-          given_back p x.q x.r (sound p told) w.path w.last bytes carried found x.added_so x.same s
-          (given_up p x.q x.r (sound p told) w.path w.last bytes carried found x.added_so x.same s client w.file_id answer row)
+          given_back p x.q x.r (sound p told) w.path (last_of w.tail) bytes carried found x.added_so x.same s
+          (given_up p x.q x.r (sound p told) w.path (last_of w.tail) bytes carried found x.added_so x.same s client w.file_id answer row)
 
       -- nothing changed but the file
       only_by : (s : Picture) → DoneOrNot (giving_up client w found.b) x.r s → OnlyFile w.path p s
       only_by s (inl same) =
-          only_file_trans w.path p x.q s (grows p x.q (sound p told) w.path w.last bytes carried found (inr x.added_so)).only
+          only_file_trans w.path p x.q s (grows p x.q (sound p told) w.path (last_of w.tail) bytes carried found (inr x.added_so)).only
           (only_file_trans w.path x.q x.r s (only_file_active w.path x.q x.r x.same) (only_file_active w.path x.r s same))
-      only_by s (inr (answer, shaped, row)) = back_only p s (sound p told) w.path w.last bytes carried (back_by s answer row)
+      only_by s (inr (answer, shaped, row)) = back_only p s (sound p told) w.path (last_of w.tail) bytes carried (back_by s answer row)
 
     pub gave_touches : TouchesFile a w c
     gave_touches p bytes told carried =
@@ -172,16 +174,16 @@ module _ (a m b : Shown) (sound : Shows IsSound a) (sound' : Shows IsSound b) (w
         let row = relayed_row (CallsRose b.counts c) (x c (Ok answers.AbandonBlock) gave p bytes told before).r (giving_up client w found.b)
         answers.AbandonBlock s.0 (λ same. absurd (cc same)) (λ same. absurd (cc same)) s.2 in
         let changes = back_by c (Ok answers.AbandonBlock) gave p bytes told before s.0 answers.AbandonBlock row in
-        let table = with_length p.table w.last in (
+        let table = with_length p.table (last_of w.tail) in (
           s.0,
           s.1,
           subst (FileCarries s.0 w.path (tail_of w)) (sym (append-nil bytes))
-              (from_done s.0 w.path w between bytes (back_carries p s.0 (sound p told) w.path w.last bytes before changes)),
-          back_only p s.0 (sound p told) w.path w.last bytes before changes,
+              (from_done s.0 w.path w between bytes (back_carries p s.0 (sound p told) w.path (last_of w.tail) bytes before changes)),
+          back_only p s.0 (sound p told) w.path (last_of w.tail) bytes before changes,
           back_same p s.0 (sound p told) w.path before.file table before.named changes,
           fills_same w.sizes.block_size (blocks_in p w) (blocks_in s.0 w) (tail_of w) (tail_of w)
               (back_blocks p s.0 (sound p told) w.path before.file table before.named changes) refl,
-          back_whole p s.0 (sound p told) w.path w.last bytes before changes w.sizes.block_size (tail_of w),
+          back_whole p s.0 (sound p told) w.path (last_of w.tail) bytes before changes w.sizes.block_size (tail_of w),
         )
 
     -- the writer carries what it did
@@ -189,7 +191,7 @@ module _ (a m b : Shown) (sound : Shows IsSound a) (sound' : Shows IsSound b) (w
     gave_wrote = record {
       keeps = keeps_refl w;
       own = own_then c (Ok answers.AbandonBlock) gave (link_of w);
-      tallies = tallies_anew a c w w (ap rebuilds_by between.none) (later_then c (Ok answers.AbandonBlock) gave);
+      tallies = tallies_anew a c w w (no_rebuilds w.tail between.none) (later_then c (Ok answers.AbandonBlock) gave);
       carries = gave_carries;
     }
 
@@ -207,7 +209,7 @@ module _ (a m b : Shown) (sound : Shows IsSound a) (sound' : Shows IsSound b) (w
     gave_fails : FailsOtherwise a w error c
     gave_fails = record {
       fails = record {
-        own = idle_own a c w None between.none (own_then c (Err error) gave None);
+        own = idle_own a c w None (no_link w.tail between.none) (own_then c (Err error) gave None);
         tells = tells_since a b c error (own_until None).later (tells_asked b c error gave.relays.tells);
         limit = λ from n is fails. absurd (no_limit gave.relays.tells.0 is);
         refused = λ refusal. absurd (apart_asked error gave.relays.tells.0 refusal);
@@ -222,7 +224,7 @@ module _ (a m b : Shown) (sound : Shows IsSound a) (sound' : Shows IsSound b) (w
   gave_starves : (c : Shown) (result : Result Answer HdfsError) → Came b (giving_up client w found.b) result c → FailsOtherwise a w errors.NoMemory c
   gave_starves c result gave = record {
     fails = record {
-      own = idle_own a c w None between.none (own_then c result gave None);
+      own = idle_own a c w None (no_link w.tail between.none) (own_then c result gave None);
       tells = (tt, (tt, tt));
       limit = λ from n is fails. absurd (cc is);
       refused = λ refusal. absurd refusal;
@@ -285,8 +287,8 @@ module _ (a m b c : Shown) (sound : Shows IsSound a) (sound' : Shows IsSound b) 
   tries_end error (inl (is, last, same)) start tried =
       subst (λ (e : HdfsError). FailsOtherwise start w e c) (sym is)
       (subst (λ (s : Shown). FailsOtherwise start w fault s) (sym same)
-      (unopened_fails m b (record w { reopened = Some found }) found between.none refl start w
-      (wrote_trans start a m w w (record w { reopened = Some found }) [] [] tried.wrote adds.wrote) not.setup fault
+      (unopened_fails m b (record w { tail = Reopened found }) found refl start w
+      (wrote_trans start a m w w (record w { tail = Reopened found }) [] [] tried.wrote adds.wrote) not.setup fault
       (λ of. all_failed of (last of)) not.none))
     where
       all_failed : is_of_setup fault ≡ true → tries.left ≡ 0 → SetupsFailed w.sizes.setup_limit start.counts b.counts
@@ -306,14 +308,14 @@ pub added_starves : (a m : Shown) (w : FileWriter) (between : IsBetweenBlocks w)
     → Adds client excluded a w found m → (tries : Tries) (start : Shown) → HasTried start w tries a → FailsOtherwise start w errors.NoMemory m
 added_starves a m w between client excluded found adds tries start tried =
     fails_after start a m w w [] errors.NoMemory tried.wrote
-    (fails_after a m m w (record w { reopened = Some found }) [] errors.NoMemory adds.wrote
-    (starved_fails m (record w { reopened = Some found }) (ap link_by between.none)))
+    (fails_after a m m w (record w { tail = Reopened found }) [] errors.NoMemory adds.wrote
+    (starved_fails m (record w { tail = Reopened found }) refl))
 
 -- a block that is to be gone on with wasn't opened: the links have failed
-pub reopened_fails : (s t : Shown) (w : FileWriter) (found : LocatedBlock) → w.going ≡ None → w.reopened ≡ Some found → (client : List ℕ)
+pub reopened_fails : (s t : Shown) (w : FileWriter) (found : LocatedBlock) → w.tail ≡ Reopened found → (client : List ℕ)
     (fault : HdfsError) → NotSetUp client false found s fault t → FailsOtherwise s w fault t
-reopened_fails s t w found none reopened client fault not =
-    unopened_fails s t w found none reopened s w (wrote_nothing s w) not.setup fault
+reopened_fails s t w found reopened client fault not =
+    unopened_fails s t w found reopened s w (wrote_nothing s w) not.setup fault
     (λ of. inl (links_failed client found not.setup s.counts t.counts not.first (setup_failed not.setup s t fault not.none of).0)) not.none
 
 -- before the first try none has failed

@@ -10,7 +10,9 @@ use Rattle.hdfs_cluster.specs.Effects.{of_length, with_length, with_block, block
 use Rattle.hdfs_cluster.specs.Picture.{Picture}
 use Rattle.hdfs_cluster.specs.Sound.{IsSound, IsFileAt}
 use Rattle.hdfs_block_reader.specs.Carrying.{HoldsWhole}
-use Rattle.hdfs_file_writer.specs.Tails.{Tail, Finished, tail_length, IsFull, TailCarries, FileCarries}
+use Rattle.hdfs_file_writer.specs.Tails.{tail_length, IsFull, TailCarries, FileCarries}
+use Rattle.hdfs_file_writer.specs.declared.tails.Tail.{Tail}
+use Rattle.hdfs_file_writer.specs.declared.tails.Tail.TheVariants.{Done}
 use Rattle.hdfs_file_writer.specs.WholeBlocks.{StaysWhole, ClosesWhole}
 use Rattle.hdfs_cluster.specs.WholeBlocks.{IsWhole, IsOfSize, IsUpTo, AllBehind, AllBetween}
 use Rattle.hdfs_file_writer.specs.Writers.{tail_done}
@@ -117,7 +119,7 @@ block_at blocks k lt = (k, lt, get_or_default blocks k (slice_index_or blocks k 
 
 -- the last block gets its length, and datanodes hold what they held
 module _ (p q : Picture) (sound : IsSound p) (path : List ℕ) (file : FileEntry) (is : IsFileAt p path file) (block : Block) (bytes : List ℕ)
-    (tail : TailCarries p path file.blocks (Finished block.block_id block.num_bytes) bytes)
+    (tail : TailCarries p path file.blocks (Done block) bytes)
     (table : (other : ℕ) → Contains file.blocks other → q.table other ≡ with_length p.table (Some block) other)
     (held : (node : List ℕ) (other : ℕ) → q.held node other ≡ p.held node other) where
   abbrev last : HoldsWhole p block.block_id block.num_bytes tail.2.0 tail.0
@@ -125,13 +127,13 @@ module _ (p q : Picture) (sound : IsSound p) (path : List ℕ) (file : FileEntry
 
   own_table : q.table block.block_id ≡ Some (of_length block.num_bytes last.entry)
   own_table =
-      table block.block_id (adding.has_last p q sound path file is block.block_id block.num_bytes bytes block refl refl tail)
-      ∙ adding.length_own p q sound path file is block.block_id block.num_bytes bytes block refl refl tail
+      table block.block_id (adding.has_last p q sound path file is bytes block tail)
+      ∙ adding.length_own p q sound path file is bytes block tail
 
   kept_before : (k : ℕ) → k + 1 < length file.blocks → IsKept p q (slice_index_or file.blocks k 0)
   kept_before k lt = (
     table (slice_index_or file.blocks k 0) (block_at file.blocks k (omega (arith, lt)))
-        ∙ adding.length_other p q sound path file is block.block_id block.num_bytes bytes block refl refl tail (slice_index_or file.blocks k 0)
+        ∙ adding.length_other p q sound path file is bytes block tail (slice_index_or file.blocks k 0)
         (before_last p sound path file is tail.1.front block.block_id tail.1.ends k lt),
     λ node. held node (slice_index_or file.blocks k 0),
   )
@@ -163,10 +165,10 @@ module _ (p q : Picture) (sound : IsSound p) (path : List ℕ) (file : FileEntry
       (record { entry = of_length block.num_bytes last.entry; is = own_table; just = just })
 
   -- with the last block the file is whole
-  pub all_closed : (size : ℕ) → ClosesWhole size p file.blocks (Finished block.block_id block.num_bytes) q file.blocks
+  pub all_closed : (size : ℕ) → ClosesWhole size p file.blocks (Done block) q file.blocks
   all_closed size = record {
     whole = all_whole;
-    full = (stays_kept size p q file.blocks file.blocks (Finished block.block_id block.num_bytes) refl kept_before).full;
+    full = (stays_kept size p q file.blocks file.blocks (Done block) refl kept_before).full;
     last = λ within k at.
         subst (IsUpTo q size) (sym (last_at file.blocks tail.1.front block.block_id tail.1.ends k at))
         (record { entry = of_length block.num_bytes last.entry; is = own_table; most = within });
@@ -201,9 +203,9 @@ closes_none size p q blocks tail none =
 
 -- a new block stands behind full ones
 stays_behind : (p q : Picture) (sound : IsSound p) (path : List ℕ) (file : FileEntry) (is : IsFileAt p path file) (block : Block) (bytes : List ℕ)
-    (tail : TailCarries p path file.blocks (Finished block.block_id block.num_bytes) bytes) {excludes : List DatanodeInfo} (found : LocatedBlock)
+    (tail : TailCarries p path file.blocks (Done block) bytes) {excludes : List DatanodeInfo} (found : LocatedBlock)
     (added : AddsNew path file (Some block) excludes found p q) (size : ℕ) → size ≤ block.num_bytes
-    → StaysWhole size p file.blocks (Finished block.block_id block.num_bytes) q (file.blocks ++ added.id ∷ [])
+    → StaysWhole size p file.blocks (Done block) q (file.blocks ++ added.id ∷ [])
 stays_behind p q sound path file is block bytes tail found added size full =
     let table : (other : ℕ) → Contains file.blocks other → q.table other ≡ with_length p.table (Some block) other =
     λ other there. old_table p q path file (Some block) found added other (is_listed p sound path file other is there) in record {
@@ -229,6 +231,6 @@ stays_grown p q sound path None bytes c found adds size full =
     subst (StaysWhole size p c.file.blocks (tail_done None) q) (sym (grown_blocks p q path c.file None found new))
     (stays_first size p q c.file.blocks (tail_done None) new.id c.carries.0)
 stays_grown p q sound path (Some block) bytes c found adds size full =
-    let new = adding.behind_new p q sound path c.file c.named block.block_id block.num_bytes bytes block refl refl c.carries found adds in
+    let new = adding.behind_new p q sound path c.file c.named bytes block c.carries found adds in
     subst (StaysWhole size p c.file.blocks (tail_done (Some block)) q) (sym (grown_blocks p q path c.file (Some block) found new))
     (stays_behind p q sound path c.file c.named block bytes c.carries found new size full)

@@ -2,7 +2,8 @@
 use Rattle.std.specs.Prelude.{ℕ, ◌≤◌, List}
 use Rattle.hdfs_cluster.specs.Picture.{Picture}
 use Rattle.hdfs_cluster.specs.WholeBlocks.{IsWhole, IsOfSize, IsUpTo, AllBehind, AllBetween, LastOne}
-use Rattle.hdfs_file_writer.specs.Tails.{Tail, tail_length}
+use Rattle.hdfs_file_writer.specs.Tails.{tail_length}
+use Rattle.hdfs_file_writer.specs.declared.tails.Tail.{Tail}
 
 -- What stays of the blocks of a file that is being written: those but the first so many and the last are whole if they were so before.
 -- They are of one size too, where the last block wasn't longer than that.

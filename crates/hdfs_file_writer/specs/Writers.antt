@@ -1,5 +1,5 @@
 -- A writer of one file, as its callers see it.
-use Rattle.std.specs.Prelude.{◌≡◌, ◌≢◌, ℕ, suc, ◌^◌, ◌<◌, ◌≤◌, true, false, Bool, List, [], ◌++◌, Option, Some, None, IsSome, IfSome, Result, Ok, Err}
+use Rattle.std.specs.Prelude.{◌≡◌, ◌≢◌, ℕ, suc, ◌^◌, ◌<◌, ◌≤◌, true, false, Bool, List, [], ◌++◌, Option, Some, None, IsSome, Result, Ok, Err}
 use Rattle.hdfs_wire.specs.Outgoing.{ArePacketSizes}
 use Rattle.hdfs_cluster.specs.declared.asks.Answer.{Answer}
 use Rattle.hdfs_cluster.specs.declared.asks.Answer.TheVariants as answers
@@ -32,7 +32,9 @@ use Rattle.hdfs_rebuild.specs.declared.block_plan.BlockPipeline.{BlockPipeline}
 use Rattle.hdfs_rebuild.specs.declared.block_plan.BlockPlan.{BlockPlan}
 use Rattle.hdfs_file_writer.specs.Failing.{TellsWrite, TellsClose, CauseOfWrite, IsNoRefusal, IsRefusal}
 use Rattle.hdfs_file_writer.specs.OnlyFiles.{OnlyFile, SameFile}
-use Rattle.hdfs_file_writer.specs.Tails.{Tail, Bare, Finished, Reopened, Going, IsFull, FillsBlocks, FileCarries}
+use Rattle.hdfs_file_writer.specs.Tails.{last_of, reopened_of, going_of, IsFull, FillsBlocks, FileCarries}
+use Rattle.hdfs_file_writer.specs.declared.tails.Tail.{Tail}
+use Rattle.hdfs_file_writer.specs.declared.tails.Tail.TheVariants.{Bare, Done, Reopened, Going}
 use Rattle.hdfs_file_writer.specs.WholeBlocks.{StaysWhole, ClosesWhole}
 use Rattle.hdfs_file_writer.specs.declared.file_writer.FileWriter.{FileWriter}
 use Rattle.hdfs_file_writer.specs.declared.sizes.WriteSizes.{WriteSizes}
@@ -69,24 +71,19 @@ sizes_of writer = writer.sizes
 abbrev pub has_failed : FileWriter → Bool
 has_failed writer = writer.failed
 
--- how the last block stands, by the block that is done
+-- how the last block of its file stands
+abbrev pub tail_of : FileWriter → Tail
+tail_of writer = writer.tail
+
+-- how the last block stands that is done, where there is one
 abbrev pub tail_done : Option Block → Tail
 tail_done None = Bare
-tail_done (Some block) = Finished block.block_id block.num_bytes
+tail_done (Some block) = Done block
 
 -- the same by the block that is to be gone on with
 abbrev pub tail_opened : Option LocatedBlock → Option Block → Tail
 tail_opened None last = tail_done last
 tail_opened (Some located) last = Reopened located
-
--- the same by the writer of a block that is being written
-abbrev pub tail_by : Option BlockWriter → Option LocatedBlock → Option Block → Tail
-tail_by None reopened last = tail_opened reopened last
-tail_by (Some writer) reopened last = Going writer
-
--- how the last block of its file stands
-abbrev pub tail_of : FileWriter → Tail
-tail_of writer = tail_by writer.going writer.reopened writer.last
 
 -- what a writer of a block of its file keeps of that: whether the block was new
 abbrev pub plan_of : FileWriter → LocatedBlock → Bool → BlockPlan
@@ -104,13 +101,13 @@ abbrev pub blocks_in : Picture → FileWriter → List ℕ
 blocks_in p writer = blocks_at (p.names writer.path)
 
 -- the link of a block that is being written
-abbrev pub link_by : Option BlockWriter → Option ℕ
-link_by None = None
-link_by (Some writer) = blocks.link_of writer
+abbrev pub link_by : Tail → Option ℕ
+link_by (Going writer) = blocks.link_of writer
+link_by tail = None
 
 -- the write link that it keeps
 abbrev pub link_of : FileWriter → Option ℕ
-link_of writer = link_by writer.going
+link_of writer = link_by writer.tail
 
 -- a block is written as one of the file at this path, which has this replication
 pub record IsPlanOf (path : List ℕ) (sizes : WriteSizes) (plan : BlockPlan) : Type 0 where
@@ -137,7 +134,7 @@ IsAnsweredTail may_answer client path file_id tail = Unit {0}
 pub record IsAnswered (may_answer : Ask → Answer → Type 0) (client : List ℕ) (writer : FileWriter) : Type 0 where
   pub id : IsAnsweredId may_answer client writer.path writer.file_id
   pub block : IsAnsweredTail may_answer client writer.path writer.file_id (tail_of writer)
-  pub last : writer.failed ≡ false → IsAnsweredLast may_answer client writer.path writer.file_id writer.last
+  pub last : writer.failed ≡ false → IsAnsweredLast may_answer client writer.path writer.file_id (last_of writer.tail)
 
 -- A block that its file's writer can open, as a new one or not: it was answered so, is to be written, and has room for a byte.
 pub record IsToOpen (may_answer : Ask → Answer → Type 0) (client : List ℕ) (writer : FileWriter) (created : Bool) (located : LocatedBlock) : Type 0 where
@@ -146,13 +143,13 @@ pub record IsToOpen (may_answer : Ask → Answer → Type 0) (client : List ℕ)
   pub room : located.b.num_bytes < writer.sizes.block_size
 
 -- how often the pipeline of a block that is being written was rebuilt
-abbrev pub rebuilds_by : Option BlockWriter → ℕ
-rebuilds_by None = 0
-rebuilds_by (Some writer) = blocks.rebuilds_of writer
+abbrev pub rebuilds_by : Tail → ℕ
+rebuilds_by (Going writer) = blocks.rebuilds_of writer
+rebuilds_by tail = 0
 
 -- the same of the block that it is writing
 abbrev pub rebuilds_of : FileWriter → ℕ
-rebuilds_of writer = rebuilds_by writer.going
+rebuilds_of writer = rebuilds_by writer.tail
 
 -- from any moment on: where its pipeline was rebuilt once for each time that datanodes have failed, so it was behind the call
 abbrev pub Tallies : Shown → FileWriter → Shown → FileWriter → Type 0
@@ -176,16 +173,15 @@ pub record BlockStands (shown : Shown) (path : List ℕ) (sizes : WriteSizes) (w
   pub plain : sizes.encrypted ≡ false
   pub plan : (pipe : BlockPipeline) → writer.pipe ≡ Some pipe → IsPlanOf path sizes pipe.plan
 
--- What a writer of a file is between calls. Once it has failed it keeps no link. Until then a block of it is done only where the one
--- behind it is being written.
+-- What a writer of a file is between calls. Once it has failed it keeps no link. Until then no block is just done, since the one behind it
+-- is begun in the same call.
 pub record Stands (shown : Shown) (writer : FileWriter) : Type 0 where
   pub packets : ArePackets writer.sizes
-  pub going : (block : BlockWriter) → writer.going ≡ Some block → BlockStands shown writer.path writer.sizes block
-  pub is_open : writer.failed ≡ false → (block : BlockWriter) → writer.going ≡ Some block → IsSome (blocks.link_of block)
+  pub going : (block : BlockWriter) → writer.tail ≡ Going block → BlockStands shown writer.path writer.sizes block
+  pub is_open : writer.failed ≡ false → (block : BlockWriter) → writer.tail ≡ Going block → IsSome (blocks.link_of block)
   pub idle : writer.failed ≡ true → link_of writer ≡ None
-  pub reopened : IfSome writer.reopened IsToWrite
-  pub apart : IsSome writer.reopened → writer.going ≡ None
-  pub done : writer.failed ≡ false → writer.going ≡ None → writer.last ≡ None
+  pub reopened : (located : LocatedBlock) → writer.tail ≡ Reopened located → IsToWrite located
+  pub done : writer.failed ≡ false → last_of writer.tail ≡ None
 
 -- What a call of a writer wants: the client's service is one of the cluster's, there is leave for what is asked for in the client's
 -- name for this path and id, the file's id and its blocks were answered to the client, and the writer stands.
@@ -224,14 +220,10 @@ pub record CanGoOn (may_answer : Ask → Answer → Type 0) (client : List ℕ) 
   pub fine : writer.failed ≡ false
   pub answered : IsAnswered may_answer client writer
 
--- a block is being written that has room for a byte
-abbrev pub HasRoom : FileWriter → Type 0
-HasRoom writer = (block : BlockWriter) × (writer.going ≡ Some block) × (blocks.length_of block ≢ blocks.size_of block)
-
 -- no block is being written, and none is to be gone on with
 pub record IsBetweenBlocks (writer : FileWriter) : Type 0 where
-  pub none : writer.going ≡ None
-  pub done : writer.reopened ≡ None
+  pub none : going_of writer.tail ≡ None
+  pub done : reopened_of writer.tail ≡ None
 
 -- A writer that may begin a block: it hasn't failed, is between blocks, all its sizes are in their limits, and its data isn't to be
 -- encrypted.
@@ -324,11 +316,11 @@ pub record FailsOtherwise (old : Shown) (writer : FileWriter) (error : HdfsError
 -- written. No datanode has failed.
 pub record Adds (client : List ℕ) (excluded : List DatanodeInfo) (old : Shown) (writer : FileWriter) (located : LocatedBlock) (new : Shown)
     : Type 0 where
-  pub came : Came old (add_block_ask writer.path client writer.last excluded writer.file_id) (Ok (answers.AddBlock located)) new
+  pub came : Came old (add_block_ask writer.path client (last_of writer.tail) excluded writer.file_id) (Ok (answers.AddBlock located)) new
   pub block : IsToWrite located
   pub empty : located.b.num_bytes ≡ 0
   pub nodes : SameNodes old new
-  pub wrote : Wrote old writer [] new (record writer { reopened = Some located })
+  pub wrote : Wrote old writer [] new (record writer { tail = Reopened located })
 
 -- a close has failed, as a call does
 pub record FailsToClose (old : Shown) (writer : FileWriter) (error : HdfsError) (new : Shown) : Type 0 where

@@ -1,11 +1,11 @@
 //! Writes a file, block by block.
-ghost use Rattle.std.specs.Prelude.{◌≡◌, ◌≢◌, ◌<◌, ◌≤◌, [], true, false, length, take, None, Some, Err, IfOk, IfErr, IfSome, OnOk, OnErr};
+ghost use Rattle.std.specs.Prelude.{◌≡◌, ◌≢◌, ◌<◌, ◌≤◌, [], true, false, length, take, None, Err, IfOk, IfErr, IfSome, OnOk, OnErr};
 ghost use Rattle.hdfs_cluster.specs.Shown.{SameNodes, Shown};
 ghost use Rattle.hdfs_cluster.specs.declared.errors.HdfsError.TheVariants as errors;
 
 use crate::sizes::WriteSizes;
-use hdfs_block_writer::BlockWriter;
-use hdfs_cluster::{ArgFault, Block, Cluster, Feature, HdfsError, LocatedBlock};
+use crate::tails::Tail;
+use hdfs_cluster::{ArgFault, Cluster, Feature, HdfsError, LocatedBlock};
 use hdfs_namenode::NamenodeProtocol;
 use hdfs_wire::Text;
 use std::alloc::Global;
@@ -21,12 +21,7 @@ pub struct FileWriter {
     pub(crate) path: Text,
     pub(crate) file_id: Option<u64>,
     pub(crate) sizes: WriteSizes,
-    // the last block that is done
-    pub(crate) last: Option<Block>,
-    // the writer of the block behind it
-    pub(crate) going: Option<BlockWriter>,
-    // the last block of an appended file, which is to be gone on with
-    pub(crate) reopened: Option<LocatedBlock>,
+    pub(crate) tail: Tail,
     pub(crate) failed: bool,
 }
 
@@ -35,7 +30,8 @@ impl FileWriter {
     ghost use Rattle.hdfs_namenode.specs.Asked.{IsServiceOf};
     ghost use Rattle.hdfs_namenode.specs.Clients.{SameClient, name_of, proxy_of, through};
     ghost use Rattle.hdfs_namenode.specs.Views.{Seen};
-    ghost use Rattle.hdfs_file_writer.specs.Tails.{Bare};
+    ghost use Rattle.hdfs_file_writer.specs.Tails.{last_of};
+    ghost use Rattle.hdfs_file_writer.specs.declared.tails.Tail.TheVariants.{Bare};
     ghost use Rattle.hdfs_cluster.specs.Namenode.{IsToWrite};
     ghost use Rattle.hdfs_file_writer.specs.Writers.{AreLimited, ArePackets, AreSizes, path_of, file_id_of, sizes_of, has_failed, link_of, tail_of, tail_opened, CanGoOn, IsAnswered, IsAtWork, IsIdle, MayWrite, Stands, Keeps, IsBetweenBlocks, OnlyOwnLink, LeavesFile, Wrote, Closed, Fails, FailsOtherwise, FailsToClose};
 
@@ -53,9 +49,7 @@ impl FileWriter {
             path,
             file_id,
             sizes,
-            last: None,
-            going: None,
-            reopened: None,
+            tail: Tail::Bare,
             failed: false,
         }
     }
@@ -82,9 +76,7 @@ impl FileWriter {
             path,
             file_id,
             sizes,
-            last: None,
-            going: None,
-            reopened: block,
+            tail: Tail::opened(block),
             failed: false,
         }
     }
@@ -108,8 +100,9 @@ impl FileWriter {
         ensures keeps { Keeps self.old self.new × SameClient namenode.old namenode.new }
     {
         self.make_room(cluster, namenode)?;
-        let Some(block) = &mut self.going else {
-            unreachable!();
+        // what made room is being written
+        let Tail::Going(block) = &mut self.tail else {
+            return Err(HdfsError::Failed);
         };
         let taken = block.write(cluster, namenode, bytes)?;
         Ok(taken)
@@ -182,11 +175,10 @@ impl FileWriter {
 
     /// Has failed from now on, and keeps no block.
     fn let_go(&mut self)
-        ensures { self.new ≡ record self.old { failed = true; reopened = None; going = None } }
+        ensures { self.new ≡ record self.old { failed = true; tail = Bare } }
     {
         self.failed = true;
-        drop(self.reopened.take());
-        drop(self.going.take());
+        self.tail.set(Tail::Bare);
     }
 
     /// Why no byte is taken where data is to be encrypted. A block that has room for a byte is asked for first, where none is to be gone
@@ -199,12 +191,8 @@ impl FileWriter {
         ensures fails { Seen C.shown (through namenode.old cluster.old) cluster.new
             (λ old new. Fails old self.old result new) }
     {
-        match self.take_reopened() {
-            Some(located) => {
-                drop(located);
-                return HdfsError::UnsupportedFeature(Feature::Encryption);
-            }
-            None => {}
+        if self.tail.goes_on(self.sizes.block_size) {
+            return HdfsError::UnsupportedFeature(Feature::Encryption);
         }
         match self.finish_block(cluster, namenode) {
             Ok(()) => {}
@@ -253,7 +241,7 @@ impl FileWriter {
         requires allowed { LetsClose C.allows C.may_answer (name_of namenode.old) (path_of self.now)
             (file_id_of self.now) }
         requires answered { IsAnsweredLast C.may_answer (name_of namenode.old) (path_of self.now) (file_id_of self.now)
-            self.now.last }
+            (last_of self.now.tail) }
         requires between { IsBetweenBlocks self.now }
         ensures closed { OnOk result (Seen C.shown (through namenode.old cluster.old) cluster.new
             (λ old new. Closed old self.now new)) }
@@ -263,12 +251,7 @@ impl FileWriter {
         ensures client { SameClient namenode.old namenode.new }
     {
         for _ in 0..COMPLETE_RETRIES {
-            if namenode.complete(
-                cluster,
-                self.path.as_str(),
-                self.last.as_ref(),
-                self.file_id,
-            )? {
+            if namenode.complete(cluster, self.path.as_str(), self.tail.done(), self.file_id)? {
                 return Ok(());
             }
         }
@@ -352,7 +335,7 @@ impl FileWriter {
         ensures last { (C.shown cluster.new).last ≡ (C.shown cluster.old).last }
         ensures touches { LeavesFile (C.shown cluster.old) self.old (C.shown cluster.new) }
     {
-        if let Some(block) = self.going.take() {
+        if let Some(block) = self.tail.take_going() {
             block.abandon(cluster);
         }
     }

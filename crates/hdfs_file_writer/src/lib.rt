@@ -6,6 +6,7 @@ mod file_writer;
 mod new_block;
 mod next_block;
 mod sizes;
+mod tails;
 
 pub use file_writer::FileWriter;
 pub use sizes::WriteSizes;

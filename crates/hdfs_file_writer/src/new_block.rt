@@ -67,8 +67,9 @@ impl FileWriter {
     ghost use Rattle.hdfs_namenode.specs.Asked.{IsServiceOf};
     ghost use Rattle.hdfs_namenode.specs.Clients.{SameClient, name_of, proxy_of, through};
     ghost use Rattle.hdfs_namenode.specs.Views.{Seen};
+    ghost use Rattle.hdfs_file_writer.specs.Tails.{HasRoom};
     ghost use Rattle.hdfs_file_writer.specs.Tries.{EndsTries, HasTried, LeavesCandidate, TriesOn, giving_up};
-    ghost use Rattle.hdfs_file_writer.specs.Writers.{path_of, file_id_of, CanGoOn, MayAdd, MayBegin, Keeps, HasRoom, Wrote, FailsOtherwise};
+    ghost use Rattle.hdfs_file_writer.specs.Writers.{path_of, file_id_of, CanGoOn, MayAdd, MayBegin, Keeps, Wrote, FailsOtherwise};
 
     /// Gives up a block whose first pipeline wasn't set up, where another try may follow: there is one fewer then, and none is on the
     /// block's first datanode.
@@ -114,7 +115,7 @@ impl FileWriter {
         requires first { AreFirst C.may_answer (name_of namenode.old) (path_of self.old) (file_id_of self.old)
             tries.old.excluded }
         ensures keeps { Keeps self.old self.new × SameClient namenode.old namenode.new }
-        ensures goes { IfOk result (λ begun. begun ≡ true → HasRoom self.new
+        ensures goes { IfOk result (λ begun. begun ≡ true → HasRoom self.new.tail
             × CanGoOn C.may_answer (name_of namenode.old) (C.shown cluster.new) self.new) }
         ensures begun { IfOk result (λ begun. begun ≡ true → Seen C.shown (through namenode.old cluster.old)
             cluster.new
@@ -151,7 +152,7 @@ impl FileWriter {
         requires begins { MayBegin self.old }
         ensures keeps { Keeps self.old self.new × SameClient namenode.old namenode.new }
         ensures goes { OnOk result (CanGoOn C.may_answer (name_of namenode.old) (C.shown cluster.new) self.new
-            × HasRoom self.new) }
+            × HasRoom self.new.tail) }
         ensures wrote { OnOk result (Seen C.shown (through namenode.old cluster.old) cluster.new
             (λ old new. Wrote old self.old [] new self.new)) }
         ensures err { IfErr result (λ error. Seen C.shown (through namenode.old cluster.old) cluster.new

@@ -1,7 +1,8 @@
 //! A writer's next block: the one before it is ended, and one is asked for and opened that has room for a byte.
-ghost use Rattle.std.specs.Prelude.{◌≡◌, ◌<◌, ◌≤◌, [], false, None, Some, IsTrue, ◌↔◌, IfOk, IfErr, IfSome, OnOk};
+ghost use Rattle.std.specs.Prelude.{◌≡◌, ◌<◌, [], false, None, IfOk, IfErr, IfSome, OnOk};
 
 use crate::file_writer::FileWriter;
+use crate::tails::Tail;
 use hdfs_block_writer::{BlockSizes, BlockWriter};
 use hdfs_cluster::{Cluster, DatanodeInfo, HdfsError, LocatedBlock};
 use hdfs_namenode::NamenodeProtocol;
@@ -13,9 +14,10 @@ impl FileWriter {
     ghost use Rattle.hdfs_cluster.specs.declared.messages.Setup.{Setup};
     ghost use Rattle.hdfs_namenode.specs.Clients.{SameClient, name_of, through};
     ghost use Rattle.hdfs_namenode.specs.Views.{Seen};
-    ghost use Rattle.hdfs_file_writer.specs.Tails.{IsFull};
+    ghost use Rattle.hdfs_file_writer.specs.Tails.{GoesOn, HasRoom, IsFull, going_of};
+    ghost use Rattle.hdfs_file_writer.specs.declared.tails.Tail.TheVariants.{Bare, Reopened};
     ghost use Rattle.hdfs_file_writer.specs.Tries.{NotSetUp};
-    ghost use Rattle.hdfs_file_writer.specs.Writers.{plan_of, path_of, file_id_of, tail_of, CanGoOn, IsAnswered, IsAtWork, IsToOpen, MayAdd, MayBegin, MayFinish, MayWrite, Keeps, IsBetweenBlocks, HasRoom, Wrote, Adds, FailsOtherwise};
+    ghost use Rattle.hdfs_file_writer.specs.Writers.{plan_of, path_of, file_id_of, tail_of, CanGoOn, IsAnswered, IsAtWork, IsToOpen, MayAdd, MayBegin, MayFinish, MayWrite, Keeps, IsBetweenBlocks, Wrote, Adds, FailsOtherwise};
 
     /// Ends the block that is being written, or leaves the one that was to be gone on with.
     pub(crate) fn finish_block<C: Cluster>(
@@ -29,23 +31,23 @@ impl FileWriter {
         ensures between { OnOk result (IsBetweenBlocks self.new × (IsFull self.old.sizes.block_size (tail_of self.old)
             → IsFull self.old.sizes.block_size (tail_of self.new))) }
         ensures answered { OnOk result (IsAnswered C.may_answer (name_of namenode.old) self.new) }
-        ensures idle { self.old.going ≡ None → cluster.new ≡ cluster.old }
+        ensures idle { going_of self.old.tail ≡ None → cluster.new ≡ cluster.old }
         ensures wrote { OnOk result (Seen C.shown (through namenode.old cluster.old) cluster.new
             (λ old new. Wrote old self.old [] new self.new)) }
         ensures err { IfErr result (λ error. Seen C.shown (through namenode.old cluster.old) cluster.new
             (λ old new. FailsOtherwise old self.old error new)) }
     {
-        match self.reopened.take() {
+        match self.tail.take_reopened() {
             Some(located) => {
-                self.last = Some(located.b);
+                self.tail.set(Tail::Done(located.b));
                 return Ok(());
             }
             None => {}
         }
-        match self.going.take() {
+        match self.tail.take_going() {
             Some(block) => {
                 let done = block.close(cluster, namenode)?;
-                self.last = Some(done);
+                self.tail.set(Tail::Done(done));
                 Ok(())
             }
             None => Ok(()),
@@ -81,8 +83,8 @@ impl FileWriter {
         requires answered { IsAnswered C.may_answer (name_of namenode.now) self.old }
         ensures keeps { Keeps self.old self.new }
         ensures goes { OnOk result (CanGoOn C.may_answer (name_of namenode.now) (C.shown cluster.new) self.new
-            × HasRoom self.new) }
-        ensures wrote { OnOk result (Wrote (C.shown cluster.old) (record self.old { reopened = Some located }) []
+            × HasRoom self.new.tail) }
+        ensures wrote { OnOk result (Wrote (C.shown cluster.old) (record self.old { tail = Reopened located }) []
             (C.shown cluster.new) self.new) }
         ensures err { IfErr result (λ fault. (self.new ≡ self.old) × NotSetUp (name_of namenode.now) created located
             (C.shown cluster.old) fault (C.shown cluster.new)) }
@@ -100,7 +102,7 @@ impl FileWriter {
             &self.sizes.rebuilding,
             sizes,
         )?;
-        self.going = Some(block);
+        self.tail.set(Tail::Going(block));
         Ok(())
     }
 
@@ -126,7 +128,7 @@ impl FileWriter {
         namenode.add_block(
             cluster,
             self.path.as_str(),
-            self.last.as_ref(),
+            self.tail.done(),
             excluded,
             self.file_id,
         )
@@ -134,19 +136,15 @@ impl FileWriter {
 
     /// The block that is to be gone on with, where it has room for a byte.
     pub(crate) fn take_reopened(&mut self) -> Option<LocatedBlock>
-        ensures some { IfSome result (λ located. (self.old.reopened ≡ Some located)
-            × (located.b.num_bytes < self.old.sizes.block_size) × (self.new ≡ record self.old { reopened = None })) }
+        ensures some { IfSome result (λ located. (self.old.tail ≡ Reopened located)
+            × (located.b.num_bytes < self.old.sizes.block_size) × (self.new ≡ record self.old { tail = Bare })) }
         ensures none { result ≡ None → self.new ≡ self.old }
-        ensures full { result ≡ None → IfSome self.old.reopened
-            (λ located. self.old.sizes.block_size ≤ located.b.num_bytes) }
+        ensures full { result ≡ None → GoesOn self.old.sizes.block_size self.old.tail → ⊥ }
     {
-        match self.reopened.take() {
-            Some(located) if located.b.num_bytes < self.sizes.block_size => Some(located),
-            other => {
-                self.reopened = other;
-                None
-            }
+        if !self.tail.goes_on(self.sizes.block_size) {
+            return None;
         }
+        self.tail.take_reopened()
     }
 
     /// Sees to it that a block is being written that has room for a byte.
@@ -159,13 +157,13 @@ impl FileWriter {
         requires works { IsAtWork self.old }
         ensures keeps { Keeps self.old self.new × SameClient namenode.old namenode.new }
         ensures goes { OnOk result (CanGoOn C.may_answer (name_of namenode.old) (C.shown cluster.new) self.new
-            × HasRoom self.new) }
+            × HasRoom self.new.tail) }
         ensures wrote { OnOk result (Seen C.shown (through namenode.old cluster.old) cluster.new
             (λ old new. Wrote old self.old [] new self.new)) }
         ensures err { IfErr result (λ error. Seen C.shown (through namenode.old cluster.old) cluster.new
             (λ old new. FailsOtherwise old self.old error new)) }
     {
-        if self.has_room() {
+        if self.tail.has_room() {
             return Ok(());
         }
         match self.take_reopened() {
@@ -177,15 +175,5 @@ impl FileWriter {
         }
         self.finish_block(cluster, namenode)?;
         self.begin_block(cluster, namenode)
-    }
-
-    /// Whether a block is being written that has room for a byte.
-    fn has_room(&self) -> bool
-        ensures { IsTrue result ↔ HasRoom self.now }
-    {
-        match &self.going {
-            Some(block) => !block.is_full(),
-            None => false,
-        }
     }
 }

@@ -15,7 +15,9 @@ use Rattle.hdfs_cluster.specs.Shown.{Shown}
 use Rattle.hdfs_cluster.specs.Sound.{IsFileAt, IsSound}
 use Rattle.hdfs_cluster.proofs.Frames.{told_after}
 use Rattle.hdfs_cluster.proofs.Repeating.{append_repeats, create_repeats}
-use Rattle.hdfs_file_writer.specs.Tails.{Tail, Bare, FileCarries}
+use Rattle.hdfs_file_writer.specs.Tails.{FileCarries}
+use Rattle.hdfs_file_writer.specs.declared.tails.Tail.{Tail}
+use Rattle.hdfs_file_writer.specs.declared.tails.Tail.TheVariants.{Bare}
 use Rattle.hdfs_file_writer.specs.Writers.{sizes_of, tail_of, tail_opened}
 use Rattle.hdfs_file_writer.specs.declared.file_writer.FileWriter.{FileWriter}
 use Rattle.hdfs_file_writer.proofs.Growing.{created_carries}

@@ -1,5 +1,6 @@
 pub mod Answered
 pub mod Begun
+pub mod Coming
 pub mod InLimits
 pub mod Kept
 pub mod Known

@@ -22,7 +22,9 @@ use Rattle.hdfs_cluster.specs.Requests.{id_in}
 use Rattle.hdfs_cluster.specs.Shown.{SameNodes, Shown}
 use Rattle.hdfs_cluster.specs.Sound.{IsFileAt}
 use Rattle.hdfs_cluster.specs.Stores.{StoresBlocks}
-use Rattle.hdfs_file_writer.specs.Tails.{Tail, Bare, FileCarries}
+use Rattle.hdfs_file_writer.specs.Tails.{FileCarries}
+use Rattle.hdfs_file_writer.specs.declared.tails.Tail.{Tail}
+use Rattle.hdfs_file_writer.specs.declared.tails.Tail.TheVariants.{Bare}
 use Rattle.hdfs_file_writer.specs.Writers.{Closed, FailsToClose, file_id_of, has_failed, link_of, path_of, sizes_of, tail_of, tail_opened}
 use Rattle.hdfs_file_writer.specs.declared.file_writer.FileWriter.{FileWriter}
 use Rattle.hdfs_file_writer.specs.declared.sizes.WriteSizes.{WriteSizes}

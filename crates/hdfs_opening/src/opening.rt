@@ -126,7 +126,8 @@ pub fn create_by<C: Cluster>(
     requires service { IsServiceOf (proxy_of namenode.old) (C.shown cluster.old) }
     requires allowed { LetsCreate C.allows C.may_answer (IsKnown C.may_answer namenode.old) (name_of namenode.old)
         path options.now }
-    requires limits { (are_options options.now ≡ true) × (1 ≤ terms.rebuilding.window) × (terms.rebuilding.window ≤ 1000) }
+    requires limits { (are_options options.now ≡ true) × (1 ≤ terms.rebuilding.window) ×
+        (terms.rebuilding.window ≤ 1000) }
     ensures created { IfOk result (λ opened. CreatesBy C.may_answer C.serves path options.now terms namenode.old
         cluster.old opened.file opened.told namenode.new cluster.new) }
     ensures begins { IfOk result (λ opened. Seen C.shown (through namenode.old cluster.old) cluster.new

@@ -171,7 +171,8 @@ fn fill<C: Cluster>(
 ) -> Result<(), HdfsError>
     requires client { IsClientOf client.old (C.shown cluster.old) }
     requires reader { Stands reader.now × ReadsBy client.old reader.now }
-    requires writer { IsWholeWriter client.old (C.shown cluster.old) writer × IsAnsweredTo C.may_answer client.old writer }
+    requires writer { IsWholeWriter client.old (C.shown cluster.old) writer
+        × IsAnsweredTo C.may_answer client.old writer }
     requires all { AllowsAll C.allows }
     ensures fills { OnOk result ((bytes : Items ℕ) × Fills reader.now client.old (C.shown cluster.old) writer bytes
         (C.shown cluster.new)) }

@@ -17,7 +17,8 @@ pub(crate) fn finish<C: Cluster>(
     bytes: &[u8],
 ) -> Result<(), HdfsError>
     requires client { IsClientOf client.old (C.shown cluster.old) }
-    requires writer { IsWholeWriter client.old (C.shown cluster.old) writer × IsAnsweredTo C.may_answer client.old writer }
+    requires writer { IsWholeWriter client.old (C.shown cluster.old) writer
+        × IsAnsweredTo C.may_answer client.old writer }
     requires all { AllowsAll C.allows }
     ensures stored { OnOk result (Finishes (C.shown cluster.old) writer bytes.now (C.shown cluster.new)) }
     ensures err { IfErr result (λ error. (last : Shown)

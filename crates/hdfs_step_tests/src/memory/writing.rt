@@ -63,7 +63,8 @@ fn fill(alloc: Global, setup: &mut Setup, alone: bool) -> Result<(), NoMemory>
 
 /// Sets up a pipeline of the first two datanodes, or of the first one alone, over a new block.
 fn open(alloc: Global, cluster: &mut MemCluster, id: u64, alone: bool) -> Result<u64, LinkFault>
-    ensures { IfOk result (λ link. (write : OpenWrite) × ((shown_of cluster.new).writes link ≡ Some write) × (write.end ≡ None)) }
+    ensures { IfOk result (λ link. (write : OpenWrite) × ((shown_of cluster.new).writes link ≡ Some write) ×
+        (write.end ≡ None)) }
 {
     let mut setup = empty_setup(alloc, id);
     match fill(alloc, &mut setup, alone) {
@@ -125,7 +126,8 @@ fn put(
     said: &mut Said,
 ) -> Result<(), LinkFault>
     requires len { length bytes.now ≤ 4 }
-    requires follows { (write : OpenWrite) × ((shown_of cluster.old).writes link ≡ Some write) × BeginsAt write.end place.0 }
+    requires follows { (write : OpenWrite) × ((shown_of cluster.old).writes link ≡ Some write)
+        × BeginsAt write.end place.0 }
     ensures { OnOk result ((write : OpenWrite) × ((shown_of cluster.new).writes link ≡ Some write)
         × (write.end ≡ Some (offset_of place.0 + length bytes.now))) }
 {

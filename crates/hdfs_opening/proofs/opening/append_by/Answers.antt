@@ -114,8 +114,8 @@ returns-clause-stands g c =
     let shown = g.C.Cluster.shown c.append.new.cluster in (
       c.appended-writer.ensures.stands shown,
       subst (λ (client : List ℕ). IsAnswered g.C.Cluster.may_answer client writer) c.in_ok-defaults.ensures.keeps.0.0.name
-          (answered_appended writer c.args.path c.in_ok-block.field-0 (c.appended-writer.ensures.stands shown)
-          c.appended-writer.ensures.idle.1 c.appended-writer.ensures.path.0
+          (answered_appended writer c.args.path c.in_ok-block.field-0
+          c.appended-writer.ensures.path.0
           (c.appended-writer.ensures.path.2 ∙ c.told_by-told.ensures.id ∙ sym (ap id_in c.in-Some.is)) c.appended-writer.ensures.tail
           (subst (λ (a : Ask). g.C.Cluster.may_answer a (answers.Append c.in_ok-block.field-0)) (going_on c.as_str.ensures refl) c.in_ok-block.ensures.answered)),
     )
@@ -124,8 +124,8 @@ pub refuse_opened-requires-clause-answered : goal.refuse_opened-requires-clause-
 refuse_opened-requires-clause-answered g c =
     let writer = c.appended-writer.result in
     subst (λ (client : List ℕ). IsAnswered g.C.Cluster.may_answer client writer) (sym c.append.ensures.keeps.name)
-    (answered_appended writer c.args.path c.in_ok-block.field-0 (c.appended-writer.ensures.stands (g.C.Cluster.shown c.append.new.cluster))
-    c.appended-writer.ensures.idle.1 c.appended-writer.ensures.path.0
+    (answered_appended writer c.args.path c.in_ok-block.field-0
+    c.appended-writer.ensures.path.0
     (c.appended-writer.ensures.path.2 ∙ c.told_by-told.ensures.id ∙ sym (ap id_in c.in-Some.is)) c.appended-writer.ensures.tail
     (subst (λ (a : Ask). g.C.Cluster.may_answer a (answers.Append c.in_ok-block.field-0)) (going_on c.as_str.ensures refl) c.in_ok-block.ensures.answered))
 

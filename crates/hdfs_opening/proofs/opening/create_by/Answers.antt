@@ -155,7 +155,7 @@ returns-clause-stands g c =
     let options = c.args.options.now in (
       c.new-file.ensures.stands shown,
       subst (λ (client : List ℕ). IsAnswered g.C.Cluster.may_answer client writer) c.in_ok-defaults.ensures.keeps.0.0.name
-          (answered_created writer c.args.path _ _ _ _ _ c.in_ok-status.status (c.new-file.ensures.stands shown) c.new-file.ensures.idle.1 c.new-file.ensures.path.0
+          (answered_created writer c.args.path _ _ _ _ _ c.in_ok-status.status c.new-file.ensures.path.0
           (c.new-file.ensures.path.2 ∙ c.told_by-told.ensures.id) c.new-file.ensures.tail
           (subst (λ (at : List ℕ). g.C.Cluster.may_answer (create_ask at options.permission c.limited_defaults.new.namenode.client c.create_flag.result options.create_parent
           c.unwrap_or-replication.result c.unwrap_or-block_size.result) (answers.Create c.in_ok-status.status)) c.as_str.ensures c.in_ok-status.ensures.answered)),

@@ -40,7 +40,7 @@ returns-then-branch-clause-closed g c = λ view has.
     let sound = shows_seen view IsSound m (g.met.C.Cluster.sound c.loop.cluster) in
     let t = see view (g.C.Cluster.shown c.complete.new.cluster) in
     asked_true c.requires.between sound asking t (name_of c.loop.namenode)
-    (came_as (cc (c.as_str.ensures, c.as_ref.ensures.value)) (ap (as_answer answers.Complete) (c.in_ok-complete.was ∙ ap Ok c.if-branch.true))
+    (came_as (cc (c.as_str.ensures, c.done.ensures)) (ap (as_answer answers.Complete) (c.in_ok-complete.was ∙ ap Ok c.if-branch.true))
     (c.complete.ensures.came view has'))
 
 pub returns-then-branch-clause-nodes : goal.returns-then-branch-clause-nodes
@@ -59,7 +59,7 @@ loop-preserved g c =
           let has' = view_same view (proxy_of c.args.namenode.now) (proxy_of c.loop.namenode) s m inv.client.service asking.own.later.namenodes has in
           asked_false c.requires.between (shows_seen view IsSound m (g.met.C.Cluster.sound c.loop.cluster)) asking
           (see view (g.C.Cluster.shown c.complete.new.cluster)) (name_of c.loop.namenode)
-          (came_as (cc (c.as_str.ensures, c.as_ref.ensures.value)) (ap (as_answer answers.Complete) (c.in_ok-complete.was ∙ ap Ok c.if-branch.false))
+          (came_as (cc (c.as_str.ensures, c.done.ensures)) (ap (as_answer answers.Complete) (c.in_ok-complete.was ∙ ap Ok c.if-branch.false))
           (c.complete.ensures.came view has')));
       client = same_client_trans c.args.namenode.now c.loop.namenode c.complete.new.self inv.client c.complete.ensures.keeps;
     }
@@ -76,7 +76,7 @@ returns-in_err-complete-clause-err g c =
     let sound = shows_seen view IsSound m (g.met.C.Cluster.sound c.loop.cluster) in
     let t = see view (g.C.Cluster.shown c.complete.new.cluster) in
     asked_error c.requires.between sound asking t (name_of c.loop.namenode) c.in_err-complete.field-0.0
-    (came_as (cc (c.as_str.ensures, c.as_ref.ensures.value)) (ap (as_answer answers.Complete) c.in_err-complete.was) (c.complete.ensures.came view has')))
+    (came_as (cc (c.as_str.ensures, c.done.ensures)) (ap (as_answer answers.Complete) c.in_err-complete.was) (c.complete.ensures.came view has')))
 
 pub returns-in_err-complete-clause-nodes : goal.returns-in_err-complete-clause-nodes
 returns-in_err-complete-clause-nodes g c = λ d.

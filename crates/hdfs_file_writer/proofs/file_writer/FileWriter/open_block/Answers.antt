@@ -1,11 +1,13 @@
 -- The goals of FileWriter::open_block.
-use Rattle.std.proofs.Common.{Some, inl, refl, sym, subst, arith}
+use Rattle.std.proofs.Common.{inl, refl, sym, subst, arith}
 use Rattle.std.proofs.lemmas.Result.{err_from_is_err_and}
 use Rattle.hdfs_namenode.specs.Clients.{name_of}
 use Rattle.hdfs_block_writer.specs.Packing.{setup_of}
 use Rattle.hdfs_rebuild.specs.declared.block_plan.BlockPlan.{BlockPlan}
 use Rattle.hdfs_block_writer.specs.BlockWriters.{IsToBegin}
 use Rattle.hdfs_block_writer.specs.Written.{BeginsWhole, IsNew}
+use Rattle.hdfs_file_writer.specs.Tails.{HasRoom}
+use Rattle.hdfs_file_writer.specs.declared.tails.Tail.TheVariants.{Reopened}
 use Rattle.hdfs_file_writer.specs.Writers.{plan_of}
 use Rattle.hdfs_file_writer.proofs.Standing.{begun_stands, opened_wrote}
 use Rattle.hdfs_file_writer.proofs.Allowed.{answered_new, answered_with, first_setup}
@@ -42,19 +44,20 @@ returns-clause-goes g c =
     let new : IsNew (plan_of w c.args.located created) w.sizes.rebuilding w.sizes.block_size w.sizes.packet_size block =
     subst (λ (x : BlockPlan). IsNew x w.sizes.rebuilding w.sizes.block_size w.sizes.packet_size block) c.in_ok-plan.ensures c.in_ok-block.ensures.new in
     let room = c.requires.located.room in
+    let w' = record w { tail = c.set.new.self } in
     let client = name_of c.args.namenode.now in (
       record {
-        stands = begun_stands (g.C.Cluster.shown c.replicated.new.cluster) (g.C.Cluster.shown c.args.cluster.now) w (record w { going = Some block }) block c.args.located created
+        stands = begun_stands (g.C.Cluster.shown c.replicated.new.cluster) (g.C.Cluster.shown c.args.cluster.now) w w' block c.args.located created
             (setup_of plan (name_of c.args.namenode.now)) c.requires.begins.sizes c.requires.begins.plain c.requires.begins.fine
-            (record { path = refl; file_id = refl; sizes = refl }) refl c.requires.begins.between.done c.in_ok-block.ensures.stands new c.in_ok-block.ensures.opened;
+            (record { path = refl; file_id = refl; sizes = refl }) c.set.ensures c.in_ok-block.ensures.stands new c.in_ok-block.ensures.opened;
         fine = c.requires.begins.fine;
         answered =
-            answered_with w (record w { going = Some block }) block (record { path = refl; file_id = refl; sizes = refl }) refl refl refl c.requires.answered
+            answered_with w w' block (record { path = refl; file_id = refl; sizes = refl }) c.set.ensures c.requires.answered
             (answered_new g.C.Cluster.may_answer client w.path w.file_id plan block c.in_ok-block.ensures.new
             (subst (λ (x : BlockPlan). IsAnsweredLocated g.C.Cluster.may_answer client w.path w.file_id x.created x.block) (sym c.in_ok-plan.ensures)
             c.requires.located.answered));
       },
-      (block, refl, λ full. absurd (omega (arith, full, new.length, new.block_size, room))),
+      subst HasRoom (sym c.set.ensures) (λ full. absurd (omega (arith, full, new.length, new.block_size, room))),
     )
 
 pub returns-clause-wrote : goal.returns-clause-wrote
@@ -65,9 +68,9 @@ returns-clause-wrote g c =
     let plan = c.in_ok-plan.plan in
     let block = c.in_ok-block.block in
     let created = c.args.created in
-    opened_wrote s t (record w { reopened = Some c.args.located }) c.args.located c.requires.begins.between.none refl (record w { going = Some block }) block created
+    opened_wrote s t (record w { tail = Reopened c.args.located }) c.args.located refl (record w { tail = c.set.new.self }) block created
     w.sizes.rebuilding w.sizes.block_size w.sizes.packet_size (setup_of plan (name_of c.args.namenode.now))
-    (record { path = refl; file_id = refl; sizes = refl }) refl
+    (record { path = refl; file_id = refl; sizes = refl }) c.set.ensures
     (subst (λ (x : BlockPlan). IsNew x w.sizes.rebuilding w.sizes.block_size w.sizes.packet_size block) c.in_ok-plan.ensures c.in_ok-block.ensures.new)
     c.in_ok-block.ensures.opened
     (subst (λ (x : BlockPlan). BeginsWhole s x block t) c.in_ok-plan.ensures c.in_ok-block.ensures.begins)

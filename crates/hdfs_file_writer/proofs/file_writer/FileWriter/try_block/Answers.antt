@@ -1,5 +1,5 @@
 -- The goals of FileWriter::try_block.
-use Rattle.std.proofs.Common.{◌∙◌, arith, [], Some, List, ℕ, refl, sym, subst, true}
+use Rattle.std.proofs.Common.{◌∙◌, arith, [], List, ℕ, refl, sym, subst, true}
 use Rattle.std.proofs.lemmas.Result.{err_from_is_err_and}
 use Rattle.hdfs_cluster.specs.Requests.{IsAdded, IsFirstSetup}
 use Rattle.hdfs_cluster.specs.Sound.{IsSound}
@@ -8,6 +8,7 @@ use Rattle.hdfs_namenode.specs.Views.{see, view_of}
 use Rattle.hdfs_namenode.proofs.Seeing.{view_same}
 use Rattle.hdfs_namenode.proofs.Services.{same_client_trans, service_same}
 use Rattle.hdfs_file_writer.specs.declared.file_writer.FileWriter.{FileWriter}
+use Rattle.hdfs_file_writer.specs.declared.tails.Tail.TheVariants.{Reopened}
 use Rattle.hdfs_file_writer.specs.Tries.{EndsTries, LeavesCandidate, NotSetUp}
 use Rattle.hdfs_file_writer.proofs.Joining.{wrote_trans, fails_after}
 use Rattle.hdfs_file_writer.proofs.Seeing.{not_set_up_seen, shows_seen, wrote_seen}
@@ -50,8 +51,8 @@ returns-in-Ok-clause-begun g c = λ begun view has.
     let m = see view (g.C.Cluster.shown c.next_block.new.cluster) in
     let t = see view (g.C.Cluster.shown c.open_block.new.cluster) in
     let w = c.args.self.now in
-    wrote_trans s m t w (record w { reopened = Some c.in_ok-located.located }) c.open_block.new.self [] [] (c.in_ok-located.ensures.adds view has).wrote
-    (wrote_seen view c.requires.begins.between.none c.in-Ok.ensures.wrote)
+    wrote_trans s m t w (record w { tail = Reopened c.in_ok-located.located }) c.open_block.new.self [] [] (c.in_ok-located.ensures.adds view has).wrote
+    (wrote_seen view refl c.in-Ok.ensures.wrote)
 
 pub returns-in_err-located-clause-err : goal.returns-in_err-located-clause-err
 returns-in_err-located-clause-err g c =
