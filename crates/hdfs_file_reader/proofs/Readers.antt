@@ -81,14 +81,18 @@ module _ (s : Shown) (r : BlockRead) (block : LocatedBlock) (offset len : ℕ) (
   cause_new s' h g holds within =
       subst (λ (b : LocatedBlock). AllBlamed s.counts s' b g) same (h s.counts g (over_new s r g idle (ap length new) (shows_held g holds within)))
 
+-- a byte of one kind is one of another: an error names it that names any
+pub fails_weaker : (P Q : ℕ → Type 0) (e : HdfsError) → ((byte : ℕ) → P byte → Q byte) → FailsAt P e → FailsAt Q e
+fails_weaker P Q errors.NoMemory more h = tt
+fails_weaker P Q (errors.DataTransferError (transfer.Read byte)) more h = more byte h
+fails_weaker P Q e more h = absurd h
+
 -- a byte of what is left of a range is one of what was left of it before
 pub fails_from : (r q : BlockRead) (e : HdfsError) → wanted_of q ≤ wanted_of r → end_of r ≡ end_of q → FailsAt (λ byte. (wanted_of r ≤ byte) × (byte < end_of r)) e → FailsAt (λ byte. (wanted_of q ≤ byte) × (byte < end_of q)) e
-fails_from r q errors.NoMemory on end h = tt
-fails_from r q (errors.DataTransferError (transfer.Read byte)) on end h = (omega (arith, on, h.0), omega (arith, end, h.1))
-fails_from r q e on end h = absurd h
+fails_from r q e on end =
+    fails_weaker (λ byte. (wanted_of r ≤ byte) × (byte < end_of r)) (λ byte. (wanted_of q ≤ byte) × (byte < end_of q)) e
+    (λ byte h. (omega (arith, on, h.0), omega (arith, end, h.1)))
 
 -- a byte of a block's part of a range shows that there is one
 pub fails_somewhere : (block : LocatedBlock) (from end : ℕ) (e : HdfsError) → FailsAt (LiesIn block from end) e → FailsAt (λ byte. from < end) e
-fails_somewhere block from end errors.NoMemory h = tt
-fails_somewhere block from end (errors.DataTransferError (transfer.Read byte)) h = omega (arith, h.behind, h.before)
-fails_somewhere block from end e h = absurd h
+fails_somewhere block from end e = fails_weaker (LiesIn block from end) (λ byte. from < end) e (λ byte h. omega (arith, h.behind, h.before))

@@ -1,9 +1,9 @@
 -- A new reader has given nothing up, so each location is to blame since the reading began.
-use Rattle.std.proofs.Common.{ℕ, ◌+◌, ◌-◌, ◌≤◌, List, length, sym, ◌∙◌, subst, arith}
+use Rattle.std.proofs.Common.{ℕ, ◌+◌, ◌-◌, ◌<◌, ◌≤◌, List, length, sym, ◌∙◌, subst, arith}
 use Rattle.std.proofs.lemmas.Result.{IfErr-weaker, on_ok_weaker}
 use Rattle.hdfs_cluster.specs.declared.messages.LocatedBlock.{LocatedBlock}
-use Rattle.hdfs_block_reader.specs.Reader.{LetsRead, client_of, end_of}
-use Rattle.hdfs_file_reader.proofs.Readers.{bytes_new, cause_new, links_from-Keeps}
+use Rattle.hdfs_block_reader.specs.Reader.{LetsRead, client_of, end_of, wanted_of}
+use Rattle.hdfs_file_reader.proofs.Readers.{bytes_new, cause_new, fails_weaker, links_from-Keeps}
 use Rattle.hdfs_file_reader.proofs.reading.read_block.Goals as goal
 
 -- the end of a range is as far from its start as it is long
@@ -24,6 +24,17 @@ pub returns-clause-links : goal.returns-clause-links
 returns-clause-links g c =
     let new = c.in_ok-reader.ensures in
     links_from-Keeps (g.C.Cluster.shown c.args.cluster.now) (g.C.Cluster.shown c.read_all.new.cluster) c.in_ok-reader.reader c.read_all.new.reader c.read_all.ensures.keeps new.idle.0 c.read_all.ensures.idle
+
+pub returns-clause-fails : goal.returns-clause-fails
+returns-clause-fails g c =
+    let new = c.in_ok-reader.ensures in
+    let reader = c.in_ok-reader.reader in
+    IfErr-weaker c.read_all.result _ _
+    (λ error failed.
+    fails_weaker (λ byte. (wanted_of reader ≤ byte) × (byte < end_of reader))
+    (λ byte. (c.args.range.start ≤ byte) × (byte < c.args.range.end)) error
+    (λ byte h. (omega (arith, new.range.0, h.0), omega (arith, new.range.1, c.requires.within, h.1))) failed.fails)
+    c.read_all.ensures.err
 
 pub returns-clause-bytes : goal.returns-clause-bytes
 returns-clause-bytes g c =
